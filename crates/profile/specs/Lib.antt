@@ -1,3 +1,4 @@
 pub mod Columns
 pub mod Piles
 pub mod Times
+pub mod Wave

@@ -3,6 +3,7 @@ mod columns;
 mod fault;
 mod pile;
 mod time;
+mod wave;
 
 pub use columns::Survey;
 pub use columns::measure;
@@ -17,3 +18,5 @@ pub use pile::levels_of_pile;
 pub use time::Time;
 pub use time::TimeDisplay;
 pub use time::time_of;
+pub use wave::reaches_band;
+pub use wave::wave_row;
