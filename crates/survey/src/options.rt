@@ -1,4 +1,5 @@
 ghost use Prim.Native.Nat.{_<_, _≤_, _^_};
+ghost use Rattle.std.specs.Options.{Cases as BySome};
 ghost use Rattle.std.specs.Vec.{made};
 use std::error::AnyError;
 
@@ -32,7 +33,9 @@ pub struct Chosen<'a> {
 }
 
 // What the words name, or none where help is asked for.
-pub fn parse(words: &[String]) -> Result<Option<Options<'_>>, AnyError> {
+pub fn parse(words: &[String]) -> Result<Option<Options<'_>>, AnyError>
+    ensures { λ r. ⌜ made r (λ o. BySome o (Unit {0}) (λ p. (1 ≤ p .chosen .columns) × (p .chosen .columns ≤ 200))) ⌝ }
+{
     let mut file = None;
     let mut format = Format::Pcm;
     let mut options = Chosen {
@@ -67,7 +70,10 @@ pub fn parse(words: &[String]) -> Result<Option<Options<'_>>, AnyError> {
 }
 
 // The options with one more that has a value.
-fn with_value<'a>(so_far: Chosen<'a>, word: &str, value: &'a str) -> Result<Chosen<'a>, AnyError> {
+fn with_value<'a>(so_far: Chosen<'a>, word: &str, value: &'a str) -> Result<Chosen<'a>, AnyError>
+    requires { ⌜ (1 ≤ «so_far» .columns) × («so_far» .columns ≤ 200) ⌝ }
+    ensures { λ r. ⌜ made r (λ o. (1 ≤ o .columns) × (o .columns ≤ 200)) ⌝ }
+{
     let mut options = so_far;
     match word {
         "--join" => options.second = Some(Source {

@@ -1,0 +1,9 @@
+pub mod Tests
+pub mod Mirrors
+pub mod Links
+pub mod Levels
+pub mod Lists
+pub mod Ways
+pub mod Edits
+pub mod Costs
+pub mod Loops
