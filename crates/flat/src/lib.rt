@@ -1,0 +1,30 @@
+// The flat sequence: what a session means, as plain lists. The definitions stand in specs/; the
+// functions here are the conditions that need no list.
+ghost use mathlib.Core.Path.{_≡_};
+ghost use Rattle.flat.specs.Refusals.{noLength, fewCells};
+use faults::SessionFault;
+
+// An edit or a copy wants this many cells free, whatever it then takes.
+pub const CELLS_WANTED: usize = 2048;
+
+// A range of no atoms is refused.
+pub fn no_length(len: u32) -> Option<SessionFault>
+    ensures { λ r. ⌜ r ≡ noLength len ⌝ }
+{
+    if len == 0 {
+        Some(SessionFault::NoLength)
+    } else {
+        None
+    }
+}
+
+// An edit or a copy that finds too few cells free is refused.
+pub fn few_cells(free: usize) -> Option<SessionFault>
+    ensures { λ r. ⌜ r ≡ fewCells free ⌝ }
+{
+    if free < CELLS_WANTED {
+        Some(SessionFault::FewCells)
+    } else {
+        None
+    }
+}
