@@ -2,15 +2,16 @@ ghost use mathlib.Core.Path.{_≡_};
 ghost use Rattle.faults.specs.Numbers.{causeNumber};
 use std::fmt;
 
-// Why two numbers make no element of a kind. The numbers of the causes are part of the script
-// format, so a new kind adds its own here.
+// Why two numbers make no element of a kind, in the order of the numbers. `Other` is for kinds made
+// elsewhere.
 #[derive(Clone, Copy, PartialEq, Eq, Debug)]
 pub enum Cause {
     NoExtent,
     PastReel,
     NoTempo,
-    TempoTooLong,
-    TooManyTicks,
+    TempoAboveLimit,
+    ExtentAboveLimit,
+    Other(u16),
 }
 
 impl Cause {
@@ -21,8 +22,9 @@ impl Cause {
             Cause::NoExtent => 1,
             Cause::PastReel => 2,
             Cause::NoTempo => 3,
-            Cause::TempoTooLong => 4,
-            Cause::TooManyTicks => 5,
+            Cause::TempoAboveLimit => 4,
+            Cause::ExtentAboveLimit => 5,
+            Cause::Other(n) => n,
         }
     }
 }
@@ -30,11 +32,15 @@ impl Cause {
 pub impl fmt::Display for Cause as CauseDisplay {
     fn fmt<W: fmt::Write>(&self, f: &mut fmt::Formatter<W>) -> fmt::Result {
         let text = match self {
+            Cause::Other(n) => {
+                let n = *n;
+                return write!(f, "the kind refuses the element with cause {n}");
+            }
             Cause::NoExtent => "the element would be empty",
             Cause::PastReel => "the element would pass the reel's end",
             Cause::NoTempo => "the tempo is 0",
-            Cause::TempoTooLong => "the tempo is above 16,777,215 microseconds a beat",
-            Cause::TooManyTicks => "the element would have more than 1,073,741,824 ticks",
+            Cause::TempoAboveLimit => "the tempo is above 16,777,215 microseconds a beat",
+            Cause::ExtentAboveLimit => "the element would have an extent above 1,073,741,824",
         };
         f.write_str(text)
     }

@@ -1,4 +1,4 @@
-// Every refusal of the editing core. A fault of a lower layer is carried whole inside that of the
+// The refusals of the editing core, each with its number. A fault of a lower layer is carried whole inside that of the
 // layer above: a kind's cause inside a session's fault, and that inside a script's.
 mod causes;
 mod reel;
@@ -9,7 +9,9 @@ pub use causes::Cause;
 pub use causes::CauseDisplay;
 pub use reel::ReelFault;
 pub use reel::ReelFaultDisplay;
+pub use script::FromReel;
 pub use script::FromSession;
 pub use script::ScriptFault;
+pub use script::Stop;
 pub use session::FromCause;
 pub use session::SessionFault;

@@ -8,7 +8,7 @@ use crate::causes::Cause;
 pub enum SessionFault {
     NotHeld,
     BeyondEnd,
-    NoLength,
+    EmptyRange,
     RangePastEnd,
     Unlawful(Cause),
     ClipboardEmpty,
@@ -32,7 +32,7 @@ impl SessionFault {
         match self {
             SessionFault::NotHeld => 1,
             SessionFault::BeyondEnd => 2,
-            SessionFault::NoLength => 3,
+            SessionFault::EmptyRange => 3,
             SessionFault::RangePastEnd => 4,
             SessionFault::Unlawful(_) => 5,
             SessionFault::ClipboardEmpty => 6,

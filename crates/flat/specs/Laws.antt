@@ -9,9 +9,10 @@ use Rattle.std.specs.shelf.Lists.{All, Has}
 use Rattle.std.specs.Finite.{nth}
 use Rattle.std.specs.declared.option.Option.{Option}
 use Rattle.std.specs.declared.option.Option.the-variants.{None, Some}
+use Rattle.faults.specs.Limits.{limit}
 use Rattle.faults.specs.Numbers.{sessionNumber}
 use Rattle.faults.specs.declared.session.SessionFault.{SessionFault}
-use Rattle.kinds.specs.Kinds.{Meaning, Laws, Tallies, limit, total}
+use Rattle.kinds.specs.Kinds.{Meaning, Laws, Lawful, Tallies, total}
 use Rattle.flat.specs.Places.{extent, extentOf, atomsOf, before, after, divided, putAt, taken, without}
 use Rattle.flat.specs.States.{State, Version, fresh, historyLimit, holdLimit}
 use Rattle.flat.specs.Calls.{Call, Outcome, release, gave, refused}
@@ -45,7 +46,7 @@ module _ {E A S : Type 0} (k : Meaning E A S) where
 
   -- at a place between two elements nothing is divided
   abbrev pub DividesNothing : Type 0
-  DividesNothing = Laws k → (xs ys : List E) → All (k .lawful) ys → (before k (extentOf k xs) (xs ++ ys) ≡ xs) × (after k (extentOf k xs) (xs ++ ys) ≡ ys)
+  DividesNothing = Laws k → (xs ys : List E) → All (Lawful k) ys → (before k (extentOf k xs) (xs ++ ys) ≡ xs) × (after k (extentOf k xs) (xs ++ ys) ≡ ys)
 
   -- inside an element, at offset d, it is divided into its parts (0, d) and (d, extent - d)
   abbrev pub DividesInside : Type 0
@@ -55,7 +56,7 @@ module _ {E A S : Type 0} (k : Meaning E A S) where
 
   -- before the place p lie the first p atoms and after it the others, so dividing changes no atom
   abbrev pub DividesAtoms : Type 0
-  DividesAtoms = Laws k → (es : List E) (p : ℕ) → All (k .lawful) es
+  DividesAtoms = Laws k → (es : List E) (p : ℕ) → All (Lawful k) es
       → (atomsOf k (before k p es) ≡ take p (atomsOf k es))
       × (atomsOf k (after k p es) ≡ drop p (atomsOf k es))
       × (atomsOf k (divided k p es) ≡ atomsOf k es)
@@ -63,18 +64,18 @@ module _ {E A S : Type 0} (k : Meaning E A S) where
   -- A range is what lies between from and from + len, once the list is divided at from and then at
   -- from + len; what is left is what lies before from and after from + len.
   abbrev pub DividesTwice : Type 0
-  DividesTwice = Laws k → (es : List E) (from len : ℕ) → All (k .lawful) es → from + len ≤ extentOf k es
+  DividesTwice = Laws k → (es : List E) (from len : ℕ) → All (Lawful k) es → from + len ≤ extentOf k es
       → (taken k from len es ≡ after k from (before k (from + len) (divided k (from + len) (divided k from es))))
       × (without k from len es ≡ before k from (divided k (from + len) (divided k from es)) ++ after k (from + len) (divided k (from + len) (divided k from es)))
 
   -- the three parts of a cut, joined, are the whole
   abbrev pub ThreeParts : Type 0
-  ThreeParts = Laws k → (es : List E) (from len : ℕ) → All (k .lawful) es
+  ThreeParts = Laws k → (es : List E) (from len : ℕ) → All (Lawful k) es
       → atomsOf k (before k from es) ++ (atomsOf k (taken k from len es) ++ atomsOf k (after k len (after k from es))) ≡ atomsOf k es
 
   -- a paste of a cut at its place gives the same atoms back
   abbrev pub PasteOfCut : Type 0
-  PasteOfCut = Laws k → (es : List E) (from len : ℕ) → All (k .lawful) es → from + len ≤ extentOf k es
+  PasteOfCut = Laws k → (es : List E) (from len : ℕ) → All (Lawful k) es → from + len ≤ extentOf k es
       → atomsOf k (putAt k from (taken k from len es) (without k from len es)) ≡ atomsOf k es
 
   -- ## Questions
@@ -91,11 +92,11 @@ module _ {E A S : Type 0} (k : Meaning E A S) where
 
   -- a tally below the total is found at one place, and that is the place of an atom
   abbrev pub FindSome : Type 0
-  FindSome = (tally : S → ℕ) → Laws k → Tallies k tally → (es : List E) (t : ℕ) → All (k .lawful) es → extentOf k es ≤ limit
+  FindSome = (tally : S → ℕ) → Laws k → Tallies k tally → (es : List E) (t : ℕ) → All (Lawful k) es → extentOf k es ≤ limit
       → t < tally (total k (atomsOf k es)) → (p : ℕ) × (p < extentOf k es) × Finds k tally es t p
 
   abbrev pub FindOne : Type 0
-  FindOne = (tally : S → ℕ) → Laws k → Tallies k tally → (es : List E) (t p q : ℕ) → All (k .lawful) es → extentOf k es ≤ limit
+  FindOne = (tally : S → ℕ) → Laws k → Tallies k tally → (es : List E) (t p q : ℕ) → All (Lawful k) es → extentOf k es ≤ limit
       → Finds k tally es t p → Finds k tally es t q → p ≡ q
 
   -- ## Refusals
@@ -140,7 +141,7 @@ module _ {E A S : Type 0} (k : Meaning E A S) where
 
   -- a list within the limits, each element of which is lawful
   pub record Sound (es : List E) : Type 0 where
-    pub lawful : All (k .lawful) es
+    pub lawful : All (Lawful k) es
     pub extent : extentOf k es ≤ limit
     pub elements : length es ≤ elementLimit
 

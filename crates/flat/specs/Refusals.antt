@@ -13,8 +13,9 @@ use Rattle.std.specs.declared.result.Result.{Result}
 use Rattle.std.specs.declared.result.Result.the-variants.{Ok, Err}
 use Rattle.faults.specs.declared.causes.Cause.{Cause}
 use Rattle.faults.specs.declared.session.SessionFault.{SessionFault}
-use Rattle.faults.specs.declared.session.SessionFault.the-variants.{NotHeld, BeyondEnd, NoLength, RangePastEnd, Unlawful, ClipboardEmpty, PastEmpty, FutureEmpty, HoldsOut, ExtentLimit, ElementLimit, FewCells, BeyondTally, OutputShort, RenderTooLong, NoSample}
-use Rattle.kinds.specs.Kinds.{Meaning, limit, total}
+use Rattle.faults.specs.declared.session.SessionFault.the-variants.{NotHeld, BeyondEnd, EmptyRange, RangePastEnd, Unlawful, ClipboardEmpty, PastEmpty, FutureEmpty, HoldsOut, ExtentLimit, ElementLimit, FewCells, BeyondTally, OutputShort, RenderTooLong, NoSample}
+use Rattle.faults.specs.Limits.{limit}
+use Rattle.kinds.specs.Kinds.{Meaning, total}
 use Rattle.flat.specs.Places.{extentOf, atomsOf, putAt, without}
 use Rattle.flat.specs.States.{State, Version, holdLimit, heldBy, versionOf, elementOf}
 use Rattle.flat.specs.Calls.{Call, insert, cut, copy, paste, erase, undo, redo, forget, hold, release}
@@ -56,8 +57,8 @@ notHeld None = Some NotHeld
 notHeld (Some es) = None
 
 -- 3: the length is 0
-abbrev pub noLength : ℕ → Option SessionFault
-noLength len = faultIf (eqb len 0) NoLength
+abbrev pub emptyRange : ℕ → Option SessionFault
+emptyRange len = faultIf (eqb len 0) EmptyRange
 
 -- 5: the two numbers make no element, with the kind's cause
 abbrev pub unlawful : {E : Type 0} → Result E Cause → Option SessionFault
@@ -125,7 +126,7 @@ module _ {E A S : Type 0} (k : Meaning E A S) where
 
   -- against a range, and against taking it out
   abbrev pub againstRange : List E → ℕ → ℕ → List (Option SessionFault)
-  againstRange es from len = noLength len ∷ rangePastEnd es from len ∷ []
+  againstRange es from len = emptyRange len ∷ rangePastEnd es from len ∷ []
 
   abbrev pub againstRemoval : List E → ℕ → ℕ → List (Option SessionFault)
   againstRemoval es from len =

@@ -1,18 +1,18 @@
 // The flat sequence: what a session means, as plain lists. The definitions stand in specs/; the
 // functions here are the conditions that need no list.
 ghost use mathlib.Core.Path.{_≡_};
-ghost use Rattle.flat.specs.Refusals.{noLength, fewCells};
+ghost use Rattle.flat.specs.Refusals.{emptyRange, fewCells};
 use faults::SessionFault;
 
 // An edit or a copy wants this many cells free, whatever it then takes.
 pub const CELLS_WANTED: usize = 2048;
 
 // A range of no atoms is refused.
-pub fn no_length(len: u32) -> Option<SessionFault>
-    ensures { λ r. ⌜ r ≡ noLength len ⌝ }
+pub fn empty_range(len: u32) -> Option<SessionFault>
+    ensures { λ r. ⌜ r ≡ emptyRange len ⌝ }
 {
     if len == 0 {
-        Some(SessionFault::NoLength)
+        Some(SessionFault::EmptyRange)
     } else {
         None
     }

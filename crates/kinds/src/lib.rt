@@ -1,5 +1,5 @@
-// Kinds of element: the one door between a subject (audio, tempo) and the trees. A kind names its
-// element and its summary, and says by ghost members what they mean.
+// Kinds of element: all that the trees know of a subject (audio, tempo). A kind names its element and
+// its summary, and says by ghost members what they mean.
 mod kind;
 mod tally;
 

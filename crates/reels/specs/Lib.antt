@@ -1,0 +1,5 @@
+pub mod Samples
+pub mod Pcm
+pub mod MuLaw
+pub mod Gain
+pub mod Keeps
