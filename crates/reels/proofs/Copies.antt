@@ -29,7 +29,7 @@ pub nth-some : (samples : List ℤ) (i : ℕ) → i < length samples → None �
 nth-some samples i h e = let g = nth-getD samples i (pos 0) h in let z : _≡_ {A = ℕ} 0 1 = cc in omega arith
 
 -- a stretch in two parts
-take-both : {X : Type 0} (a b : ℕ) (xs : List X) → take (a + b) xs ≡ take a xs ++ take b (drop a xs)
+pub take-both : {X : Type 0} (a b : ℕ) (xs : List X) → take (a + b) xs ≡ take a xs ++ take b (drop a xs)
 take-both zero b xs = let e : 0 + b ≡ b = omega arith in rw e
 take-both (suc a) zero [] = let e : suc a + 0 ≡ suc a = omega arith in rw e
 take-both (suc a) (suc b) [] = let e : suc a + suc b ≡ suc (a + suc b) = omega arith in rw e

@@ -1,0 +1,3 @@
+pub mod Audio
+pub mod Levels
+pub mod Lawfulness

@@ -1,0 +1,2 @@
+pub mod Tempo
+pub mod Lawfulness
