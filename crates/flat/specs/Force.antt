@@ -1,13 +1,18 @@
 -- Edits in force and edits undone: drawn from the calls, their numbers and which were accepted, and from
--- nothing else. No state, history or cell enters here.
+-- nothing else. No state and no cell enters here.
 use mathlib.Core.Bool.{Bool, true, false}
 use mathlib.Core.List.{List, [], _∷_, _++_}
-use Prim.Native.Nat.{ℕ, _-_}
+use Prim.Native.Nat.{ℕ, _+_, _-_, min}
 use lib.ListN.{length, take, drop}
 use Rattle.kinds.specs.Kinds.{Meaning}
-use Rattle.flat.specs.Places.{putAt, taken, without}
-use Rattle.flat.specs.States.{elementOf}
-use Rattle.flat.specs.Calls.{Call, Outcome, insert, cut, copy, paste, erase, undo, redo, forget, hold, release, accepted, gave, refused}
+use Rattle.kinds.specs.Places.{elementsOf, putAt, taken, without}
+use Rattle.flat.specs.States.{historyLimit}
+use Rattle.flat.specs.Calls.{Call, insert, cut, copy, paste, erase, undo, redo, forget, hold, release, Outcome, wasAccepted}
+
+-- each call with whether it was accepted: all that is drawn upon below
+abbrev pub acceptances : List (Call × Outcome) → List (Call × Bool)
+acceptances [] = []
+acceptances (c ∷ cs) = (c .0, wasAccepted (c .1)) ∷ acceptances cs
 
 -- an edit: an element inserted, by its place and numbers; a range removed by a cut or an erase; a
 -- paste, with the elements that it put
@@ -23,11 +28,6 @@ pub record Log (E : Type 0) : Type 0 where
   pub undone : List (Edit E)
   -- what the last accepted cut or copy took
   pub took : List E
-
-abbrev pub wasAccepted : Outcome → Bool
-wasAccepted accepted = true
-wasAccepted (gave place) = true
-wasAccepted (refused f) = false
 
 module _ {E : Type 0} where
   abbrev pub noEdits : Log E
@@ -56,7 +56,7 @@ module _ {E : Type 0} where
 module _ {E A S : Type 0} (k : Meaning E A S) where
   -- what an edit makes of a list of elements
   abbrev pub makesOne : List E → Edit E → List E
-  makesOne es (inserting p a b) = putAt k p (elementOf (k .made a b)) es
+  makesOne es (inserting p a b) = putAt k p (elementsOf (k .made a b)) es
   makesOne es (removing from len) = without k from len es
   makesOne es (pasting p new) = putAt k p new es
 
@@ -87,7 +87,29 @@ module _ {E A S : Type 0} (k : Meaning E A S) where
   notedIf true g c = noted g c
   notedIf false g c = g
 
-  -- the log of calls, each with how it ended
-  abbrev pub logged : Log E → List (Call × Outcome) → Log E
+  -- the log of calls, each with whether it was accepted
+  abbrev pub logged : Log E → List (Call × Bool) → Log E
   logged g [] = g
-  logged g (c ∷ cs) = logged (notedIf (wasAccepted (c .1)) g (c .0)) cs
+  logged g (c ∷ cs) = logged (notedIf (c .1) g (c .0)) cs
+
+-- How many of the edits in force can be undone: an edit adds one, up to what the history keeps, an undo
+-- takes one and a redo adds it again, and a forget leaves none.
+abbrev pub undoableOnce : ℕ → Call → ℕ
+undoableOnce n (insert p a b) = min historyLimit (n + 1)
+undoableOnce n (cut from len) = min historyLimit (n + 1)
+undoableOnce n (copy from len) = n
+undoableOnce n (paste p) = min historyLimit (n + 1)
+undoableOnce n (erase from len) = min historyLimit (n + 1)
+undoableOnce n undo = n - 1
+undoableOnce n redo = n + 1
+undoableOnce n forget = 0
+undoableOnce n hold = n
+undoableOnce n (release mark place) = n
+
+abbrev pub undoableIf : Bool → ℕ → Call → ℕ
+undoableIf true n c = undoableOnce n c
+undoableIf false n c = n
+
+abbrev pub undoable : ℕ → List (Call × Bool) → ℕ
+undoable n [] = n
+undoable n (c ∷ cs) = undoable (undoableIf (c .1) n (c .0)) cs

@@ -1,20 +1,20 @@
--- What a list of elements answers: stated over the atoms that it means, wherever the answer is one of atoms.
+-- What a list of elements answers: stated over the atoms that it means, wherever the answer is one of
+-- atoms. How many cells are free is no question to a list: that answer belongs to the cells.
+use mathlib.Core.Bool.{Bool}
 use mathlib.Core.Path.{_≡_}
 use mathlib.Core.List.{List, [], _∷_, _++_}
-use Prim.Native.Nat.{ℕ, _+_, _*_, _/_, _%_, _<_, _≤_}
+use Prim.Native.Nat.{ℕ, _+_, _*_, _<_, _≤_}
 use lib.IntN.{ℤ}
 use lib.ListN.{length, take, drop}
-use mir.Syntax.{w16}
-use mir.Val.{ofZ}
-use Rattle.std.specs.shelf.Lists.{joined}
 use Rattle.std.specs.declared.option.Option.{Option}
 use Rattle.std.specs.declared.option.Option.the-variants.{None, Some}
 use Rattle.std.specs.declared.result.Result.{Result}
 use Rattle.std.specs.declared.result.Result.the-variants.{Ok, Err}
 use Rattle.faults.specs.declared.session.SessionFault.{SessionFault}
+use Rattle.reels.specs.Samples.{bytesOf}
 use Rattle.kinds.specs.Kinds.{Meaning, total}
-use Rattle.flat.specs.Places.{extent, extentOf, atomsOf}
-use Rattle.flat.specs.Refusals.{firstOf}
+use Rattle.kinds.specs.Places.{extent, extentOf, atomsOf}
+use Rattle.flat.specs.Refusals.{firstOf, atVersion, againstRender}
 
 module _ {E A S : Type 0} (k : Meaning E A S) where
   -- length: how many atoms there are
@@ -56,18 +56,25 @@ module _ {E A S : Type 0} (k : Meaning E A S) where
 
 -- How a question to a version may end: refused by the first fault that applies, or, where none does, with
 -- an answer that is right for the version's list.
-abbrev pub Answered : {E V : Type 0} → Option (List E) → List (Option SessionFault) → (List E → V → Type 0) → Result V SessionFault → Type 0
-Answered {E} version against Right (Ok v) = (firstOf against ≡ None) × ((es : List E) × (version ≡ Some es) × Right es v)
-Answered version against Right (Err f) = firstOf against ≡ Some f
+abbrev pub Answered : {E V : Type 0} → Option (List E) → (List E → List (Option SessionFault)) → (List E → V → Type 0)
+    → Result V SessionFault → Type 0
+Answered {E} version against Right (Ok v) =
+    (firstOf (atVersion version against) ≡ None) × ((es : List E) × (version ≡ Some es) × Right es v)
+Answered version against Right (Err f) = firstOf (atVersion version against) ≡ Some f
 
--- a sample as two bytes, the low one first, by the 16 bits of its two's complement
-abbrev pub bytesOf : ℤ → List ℕ
-bytesOf s = (ofZ w16 s % 256) ∷ (ofZ w16 s / 256) ∷ []
+module _ {E S : Type 0} (k : Meaning E ℤ S) where
+  -- render, for kinds whose atoms are samples: the bytes of the range's samples in order
+  abbrev pub renderOf : ℕ → ℕ → List E → List ℕ
+  renderOf from len es = bytesOf (atomsIn k from len es)
 
--- render, for kinds whose atoms are samples: the bytes of the range's samples in order
-abbrev pub renderOf : {E S : Type 0} → Meaning E ℤ S → ℕ → ℕ → List E → List ℕ
-renderOf k from len es = joined bytesOf (atomsIn k from len es)
+  -- what an output holds after a render: those bytes, and beyond them what it held
+  abbrev pub outputAfter : ℕ → ℕ → List E → List ℕ → List ℕ
+  outputAfter from len es out = renderOf from len es ++ drop (2 * len) out
 
--- what an output holds after a render: those bytes, and beyond them what it held
-abbrev pub outputAfter : {E S : Type 0} → Meaning E ℤ S → ℕ → ℕ → List E → List ℕ → List ℕ
-outputAfter k from len es out = renderOf k from len es ++ drop (2 * len) out
+  -- How a render may end, over the output as it finds it and as it leaves it; where it is refused the
+  -- output stays. For missing see againstRender.
+  pub record Rendered {V : Type 0} (version : Option (List E)) (from len : ℕ) (missing : List E → Bool) (entry exit : List ℕ)
+      (r : Result V SessionFault) : Type 0 where
+    pub answered :
+        Answered version (againstRender k from len (length entry) missing) (λ es v. exit ≡ outputAfter from len es entry) r
+    pub unwritten : (f : SessionFault) → r ≡ Err f → exit ≡ entry

@@ -1,6 +1,6 @@
 -- When a call or a question is refused, and by which fault. Each condition stands under its number. For
 -- each call its conditions are listed by ascending numbers, so that of several that apply the smallest is told.
-use mathlib.Core.Bool.{Bool, true, false, cond}
+use mathlib.Core.Bool.{Bool, true, false, cond, _||_}
 use mathlib.Core.List.{List, [], _∷_, _++_}
 use Prim.Native.Nat.{ℕ, _+_, _*_}
 use lib.Dec.{eqb, leb, ltb}
@@ -13,11 +13,14 @@ use Rattle.std.specs.declared.result.Result.{Result}
 use Rattle.std.specs.declared.result.Result.the-variants.{Ok, Err}
 use Rattle.faults.specs.declared.causes.Cause.{Cause}
 use Rattle.faults.specs.declared.session.SessionFault.{SessionFault}
-use Rattle.faults.specs.declared.session.SessionFault.the-variants.{NotHeld, BeyondEnd, EmptyRange, RangePastEnd, Unlawful, ClipboardEmpty, PastEmpty, FutureEmpty, HoldsOut, ExtentLimit, ElementLimit, FewCells, BeyondTally, OutputShort, RenderTooLong, NoSample}
+use Rattle.faults.specs.declared.session.SessionFault.the-variants.{NotHeld, BeyondEnd, EmptyRange, RangePastEnd, Unlawful}
+use Rattle.faults.specs.declared.session.SessionFault.the-variants.{ClipboardEmpty, PastEmpty, FutureEmpty, HoldsOut, ExtentLimit}
+use Rattle.faults.specs.declared.session.SessionFault.the-variants.{ElementLimit, FewCells, BeyondTally, OutputShort}
+use Rattle.faults.specs.declared.session.SessionFault.the-variants.{RenderTooLong, NoSample, CellsOutside}
 use Rattle.faults.specs.Limits.{limit}
 use Rattle.kinds.specs.Kinds.{Meaning, total}
-use Rattle.flat.specs.Places.{extentOf, atomsOf, putAt, without}
-use Rattle.flat.specs.States.{State, Version, holdLimit, heldBy, versionOf, elementOf}
+use Rattle.kinds.specs.Places.{elementsOf, extentOf, atomsOf, putAt, taken, without}
+use Rattle.flat.specs.States.{State, holdLimit, heldBy}
 use Rattle.flat.specs.Calls.{Call, insert, cut, copy, paste, erase, undo, redo, forget, hold, release}
 
 -- the most elements of a track
@@ -27,6 +30,13 @@ elementLimit = 4095
 -- how many cells an edit or a copy must find free
 abbrev pub cellsWanted : ℕ
 cellsWanted = 2048
+
+-- the fewest and the most cells that a session starts with
+abbrev pub fewestCells : ℕ
+fewestCells = 4096
+
+abbrev pub mostCells : ℕ
+mostCells = 65535
 
 -- the most frames of one render
 abbrev pub renderLimit : ℕ
@@ -97,6 +107,10 @@ outputShort len bytes = faultIf (ltb bytes (2 * len)) OutputShort
 abbrev pub renderTooLong : ℕ → Option SessionFault
 renderTooLong len = faultIf (ltb renderLimit len) RenderTooLong
 
+-- 18: a session is started with too few cells or too many
+abbrev pub cellsOutside : ℕ → Option SessionFault
+cellsOutside cells = faultIf (ltb cells fewestCells || ltb mostCells cells) CellsOutside
+
 module _ {E A S : Type 0} (k : Meaning E A S) where
   -- 2: the place is beyond the end
   abbrev pub beyondEnd : List E → ℕ → Option SessionFault
@@ -135,7 +149,8 @@ module _ {E A S : Type 0} (k : Meaning E A S) where
   -- Every refusal of a call in a state, by ascending numbers; free is the number of cells that the
   -- call finds free.
   abbrev pub refusals : State E → ℕ → Call → List (Option SessionFault)
-  refusals s free (insert p a b) = againstPut (s .present) p (unlawful (k .made a b)) (elementOf (k .made a b)) ++ (fewCells free ∷ [])
+  refusals s free (insert p a b) =
+      againstPut (s .present) p (unlawful (k .made a b)) (elementsOf (k .made a b)) ++ (fewCells free ∷ [])
   refusals s free (cut from len) = againstRemoval (s .present) from len ++ (fewCells free ∷ [])
   refusals s free (copy from len) = againstRange (s .present) from len ++ (fewCells free ∷ [])
   refusals s free (paste p) = againstPut (s .present) p (clipboardEmpty s) (s .clipboard) ++ (fewCells free ∷ [])
@@ -150,27 +165,36 @@ module _ {E A S : Type 0} (k : Meaning E A S) where
   abbrev pub refusal : State E → ℕ → Call → Option SessionFault
   refusal s free c = firstOf (refusals s free c)
 
--- A question to a version: 1 where there is none, and else what can be said against it of that list.
+-- What can be said against a question put to a version: 1 where there is none, and else what can be
+-- said against it of the version's list.
 abbrev pub atVersion : {E : Type 0} → Option (List E) → (List E → List (Option SessionFault)) → List (Option SessionFault)
 atVersion None against = Some NotHeld ∷ []
 atVersion (Some es) against = against es
 
+-- length is told of every list
+abbrev pub againstLength : {E : Type 0} → List E → List (Option SessionFault)
+againstLength es = []
+
 module _ {E A S : Type 0} (k : Meaning E A S) where
-  -- length is told of every version
-  abbrev pub lengthRefusals : State E → Version → List (Option SessionFault)
-  lengthRefusals s v = atVersion (versionOf s v) (λ es. [])
+  abbrev pub againstRead : ℕ → List E → List (Option SessionFault)
+  againstRead p es = noAtom k es p ∷ []
 
-  abbrev pub readRefusals : State E → Version → ℕ → List (Option SessionFault)
-  readRefusals s v p = atVersion (versionOf s v) (λ es. noAtom k es p ∷ [])
+  abbrev pub againstOverview : ℕ → ℕ → List E → List (Option SessionFault)
+  againstOverview from len es = againstRange k es from len
 
-  abbrev pub overviewRefusals : State E → Version → ℕ → ℕ → List (Option SessionFault)
-  overviewRefusals s v from len = atVersion (versionOf s v) (λ es. againstRange k es from len)
+  abbrev pub againstFind : (S → ℕ) → ℕ → List E → List (Option SessionFault)
+  againstFind tally t es = beyondTally k tally es t ∷ []
 
-  abbrev pub findRefusals : (S → ℕ) → State E → Version → ℕ → List (Option SessionFault)
-  findRefusals tally s v t = atVersion (versionOf s v) (λ es. beyondTally k tally es t ∷ [])
+  -- Against a render into an output of so many bytes. No reel is known here: missing says of the
+  -- range's elements whether the reel lacks a sample that they mean, and a session's contract must
+  -- pass exactly that, as lacks below has it for the reel's samples.
+  abbrev pub againstRender : ℕ → ℕ → ℕ → (List E → Bool) → List E → List (Option SessionFault)
+  againstRender from len bytes missing es =
+      againstRange k es from len
+      ++ (outputShort len bytes ∷ renderTooLong len ∷ faultIf (missing (taken k from len es)) NoSample ∷ [])
 
-  -- Render into an output of so many bytes. Whether the reel lacks a sample that is wanted is told by
-  -- missing, since no reel is known here.
-  abbrev pub renderRefusals : State E → Version → ℕ → ℕ → ℕ → Bool → List (Option SessionFault)
-  renderRefusals s v from len bytes missing =
-      atVersion (versionOf s v) (λ es. againstRange k es from len ++ (outputShort len bytes ∷ renderTooLong len ∷ faultIf missing NoSample ∷ []))
+  -- Of elements that tell their first sample's index and how many samples they mean: a list of samples
+  -- ends before the last one of some element.
+  abbrev pub lacks : {X : Type 0} → List X → List E → Bool
+  lacks samples [] = false
+  lacks samples (e ∷ es) = ltb (length samples) (k .first e + k .second e) || lacks samples es

@@ -1,17 +1,14 @@
 -- The flat sequence: what a session means, as plain lists, and what each accepted call makes of it.
 use mathlib.Core.Bool.{Bool, true, false, cond}
 use mathlib.Core.Path.{_≡_}
-use mathlib.Core.List.{List, [], _∷_, _++_}
+use mathlib.Core.List.{List, [], _∷_}
 use Prim.Native.Nat.{ℕ, _<_}
 use lib.Dec.{eqb}
 use lib.ListN.{getD, set, take, replicate}
 use Rattle.std.specs.declared.option.Option.{Option}
 use Rattle.std.specs.declared.option.Option.the-variants.{None, Some}
-use Rattle.std.specs.declared.result.Result.{Result}
-use Rattle.std.specs.declared.result.Result.the-variants.{Ok, Err}
-use Rattle.faults.specs.declared.causes.Cause.{Cause}
 use Rattle.kinds.specs.Kinds.{Meaning}
-use Rattle.flat.specs.Places.{putAt, taken, without}
+use Rattle.kinds.specs.Places.{elementsOf, putAt, taken, without}
 
 -- how many earlier versions the history keeps
 abbrev pub historyLimit : ℕ
@@ -33,11 +30,15 @@ pub record State (E : Type 0) : Type 0 where
   -- at each place the version held there, or none
   pub held : List (Option (List E))
 
--- The numbers of a slip: the mark of the session that gave it, and its place there.
--- A question is put to the present list or to a slip's.
-pub data Version : Type 0 where
-  atPresent : Version
-  atSlip : ℕ → ℕ → Version
+-- What a question is put to: the present list, or that of a slip, by the slip's numbers: the mark of
+-- the session that gave it, and its place there.
+pub data Asked : Type 0 where
+  atPresent : Asked
+  atSlip : ℕ → ℕ → Asked
+
+-- of earlier versions, the newest first, those that the history keeps: the oldest goes
+unfoldable pub kept : {E : Type 0} → List (List E) → List (List E)
+kept versions = take historyLimit versions
 
 module _ {E : Type 0} where
   -- a session just started
@@ -49,7 +50,7 @@ module _ {E : Type 0} where
   heldBy s mark place = cond (eqb mark (s .mark)) (getD (s .held) place None) None
 
   -- the list that a question is put to, if there is one
-  abbrev pub versionOf : State E → Version → Option (List E)
+  abbrev pub versionOf : State E → Asked → Option (List E)
   versionOf s atPresent = Some (s .present)
   versionOf s (atSlip mark place) = heldBy s mark place
 
@@ -57,27 +58,32 @@ module _ {E : Type 0} where
   abbrev pub FreePlace : State E → ℕ → Type 0
   FreePlace s place = (place < holdLimit) × (getD (s .held) place None ≡ None)
 
-  -- the element made of two numbers, alone; nothing where there is none
-  abbrev pub elementOf : Result E Cause → List E
-  elementOf (Ok e) = e ∷ []
-  elementOf (Err c) = []
+  -- the present list, the past and the future change
+  abbrev pub withHistory : State E → List E → List (List E) → List (List E) → State E
+  withHistory s new past future =
+      record { mark = s .mark; present = new; past = past; future = future; clipboard = s .clipboard; held = s .held }
+
+  -- the clipboard alone changes
+  abbrev pub withClipboard : State E → List E → State E
+  withClipboard s es =
+      record { mark = s .mark; present = s .present; past = s .past; future = s .future; clipboard = es; held = s .held }
+
+  -- one place alone changes
+  abbrev pub withPlace : State E → ℕ → Option (List E) → State E
+  withPlace s place v =
+      record {
+        mark = s .mark;
+        present = s .present;
+        past = s .past;
+        future = s .future;
+        clipboard = s .clipboard;
+        held = set (s .held) place v;
+      }
 
   -- An edit: the old present list becomes the newest of the past, of which the oldest goes where
   -- they are too many, and the future is emptied. The clipboard and what is held stay.
   abbrev pub edited : State E → List E → State E
-  edited s new = record { mark = s .mark; present = new; past = take historyLimit (s .present ∷ s .past); future = []; clipboard = s .clipboard; held = s .held }
-
-  -- the clipboard alone changes
-  abbrev pub withClipboard : State E → List E → State E
-  withClipboard s es = record { mark = s .mark; present = s .present; past = s .past; future = s .future; clipboard = es; held = s .held }
-
-  -- the present list, the past and the future change
-  abbrev pub withHistory : State E → List E → List (List E) → List (List E) → State E
-  withHistory s new past future = record { mark = s .mark; present = new; past = past; future = future; clipboard = s .clipboard; held = s .held }
-
-  -- one place alone changes
-  abbrev pub withPlace : State E → ℕ → Option (List E) → State E
-  withPlace s place v = record { mark = s .mark; present = s .present; past = s .past; future = s .future; clipboard = s .clipboard; held = set (s .held) place v }
+  edited s new = withHistory s new (kept (s .present ∷ s .past)) []
 
   -- Undo: the newest of the past becomes the present list, and that the next of the future.
   abbrev pub undoneTo : State E → List (List E) → State E
@@ -109,7 +115,7 @@ module _ {E : Type 0} where
 module _ {E A S : Type 0} (k : Meaning E A S) where
   -- Insert puts the element of two numbers at a place.
   abbrev pub afterInsert : State E → ℕ → ℕ → ℕ → State E
-  afterInsert s p a b = edited s (putAt k p (elementOf (k .made a b)) (s .present))
+  afterInsert s p a b = edited s (putAt k p (elementsOf (k .made a b)) (s .present))
 
   -- Cut takes a range out, and makes it the clipboard; erase spares the clipboard.
   abbrev pub afterErase : State E → ℕ → ℕ → State E

@@ -1,4 +1,5 @@
 -- One call on a state, and lists of calls.
+use mathlib.Core.Bool.{true}
 use mathlib.Core.Path.{_≡_}
 use mathlib.Core.List.{List, [], _∷_}
 use Prim.Native.Nat.{ℕ}
@@ -6,8 +7,10 @@ use Rattle.std.specs.declared.option.Option.{Option}
 use Rattle.std.specs.declared.option.Option.the-variants.{None, Some}
 use Rattle.faults.specs.declared.session.SessionFault.{SessionFault}
 use Rattle.kinds.specs.Kinds.{Meaning}
-use Rattle.flat.specs.States.{State, FreePlace, afterInsert, afterCut, afterCopy, afterPaste, afterErase, afterUndo, afterRedo, afterForget, afterHold, afterRelease}
-use Rattle.flat.specs.Calls.{Call, Outcome, Fits32, insert, cut, copy, paste, erase, undo, redo, forget, hold, release, accepted, gave, refused}
+use Rattle.flat.specs.States.{State, FreePlace, afterInsert, afterCut, afterCopy, afterPaste, afterErase}
+use Rattle.flat.specs.States.{afterUndo, afterRedo, afterForget, afterHold, afterRelease}
+use Rattle.flat.specs.Calls.{Call, insert, cut, copy, paste, erase, undo, redo, forget, hold, release, Fits32}
+use Rattle.flat.specs.Calls.{Outcome, accepted, gave, refused, wasAccepted}
 use Rattle.flat.specs.Refusals.{refusal}
 
 -- A call with what the lists leave open: how many cells it finds free, and the place that a hold gives.
@@ -15,6 +18,9 @@ pub record Turn : Type 0 where
   pub call : Call
   pub free : ℕ
   pub place : ℕ
+
+abbrev pub calling : Call → ℕ → ℕ → Turn
+calling c free place = record { call = c; free = free; place = place }
 
 -- a refused call changes nothing
 abbrev pub decided : {E : Type 0} → State E → Option SessionFault → State E × Outcome → State E × Outcome
@@ -32,17 +38,20 @@ module _ {E A S : Type 0} (k : Meaning E A S) where
   performed s place undo = (afterUndo s, accepted)
   performed s place redo = (afterRedo s, accepted)
   performed s place forget = (afterForget s, accepted)
-  performed s place hold = (afterHold s place, gave place)
+  performed s place hold = (afterHold s place, gave (s .mark) place)
   performed s place (release mark at) = (afterRelease s at, accepted)
 
   -- a call: the state that it leaves, and how it ends
   abbrev pub step : State E → Turn → State E × Outcome
   step s t = decided s (refusal k s (t .free) (t .call)) (performed s (t .place) (t .call))
 
+  abbrev pub Accepts : State E → Turn → Type 0
+  Accepts s t = wasAccepted ((step s t) .1) ≡ true
+
   -- the turn can be: its numbers have 32 bits, and a hold that is accepted gives a free place
   pub record Possible (s : State E) (t : Turn) : Type 0 where
     pub fits : Fits32 (t .call)
-    pub place-free : (step s t) .1 ≡ gave (t .place) → FreePlace s (t .place)
+    pub place-free : (step s t) .1 ≡ gave (s .mark) (t .place) → FreePlace s (t .place)
 
   -- A call that finds so many cells free leads from one state to another, with an outcome.
   pub record Leads (s : State E) (c : Call) (free : ℕ) (s′ : State E) (o : Outcome) : Type 0 where

@@ -6,7 +6,15 @@ use Prim.Native.Nat.{ℕ, _+_, _-_}
 use lib.Dec.{eqb, leb}
 use lib.ListN.{length}
 use Rattle.std.specs.shelf.Lists.{joined}
+use Rattle.std.specs.declared.result.Result.{Result}
+use Rattle.std.specs.declared.result.Result.the-variants.{Ok, Err}
+use Rattle.faults.specs.declared.causes.Cause.{Cause}
 use Rattle.kinds.specs.Kinds.{Meaning}
+
+-- the element made of two numbers, as a list of one; no element where there is none
+abbrev pub elementsOf : {E : Type 0} → Result E Cause → List E
+elementsOf (Ok e) = e ∷ []
+elementsOf (Err c) = []
 
 module _ {E A S : Type 0} (k : Meaning E A S) where
   -- the extent of an element: how many atoms it means
@@ -24,14 +32,14 @@ module _ {E A S : Type 0} (k : Meaning E A S) where
 
   -- Dividing at a place does nothing between two elements; inside one, at offset d, it leaves the
   -- parts (0, d) and (d, extent - d). What then lies before the place p:
-  abbrev pub before : ℕ → List E → List E
+  unfoldable pub before : ℕ → List E → List E
   before p [] = []
   before p (e ∷ es) =
       cond (leb (extent e) p) (e ∷ before (p - extent e) es)
       (cond (eqb p 0) [] (k .part e 0 p ∷ []))
 
   -- and what lies after it:
-  abbrev pub after : ℕ → List E → List E
+  unfoldable pub after : ℕ → List E → List E
   after p [] = []
   after p (e ∷ es) =
       cond (leb (extent e) p) (after (p - extent e) es)
@@ -42,14 +50,14 @@ module _ {E A S : Type 0} (k : Meaning E A S) where
   divided p es = before p es ++ after p es
 
   -- what is put at the place p stands between what lies before it and what lies after it
-  abbrev pub putAt : ℕ → List E → List E → List E
+  unfoldable pub putAt : ℕ → List E → List E → List E
   putAt p new es = before p es ++ (new ++ after p es)
 
   -- The range (from, len) is had by dividing at from, and then what lies after from at len more: so
   -- of one element around it all the range is the part (0, len) of the part (d, extent - d).
-  abbrev pub taken : ℕ → ℕ → List E → List E
+  unfoldable pub taken : ℕ → ℕ → List E → List E
   taken from len es = before len (after from es)
 
   -- what is left when the range is taken out
-  abbrev pub without : ℕ → ℕ → List E → List E
+  unfoldable pub without : ℕ → ℕ → List E → List E
   without from len es = before from es ++ after len (after from es)
