@@ -1,8 +1,14 @@
 // The flat sequence: what a session means, as plain lists. The definitions stand in specs/; the
-// functions here are the conditions that need no list.
+// functions here are the conditions that need no list, and promises names what is proved of them.
 ghost use mathlib.Core.Path.{_≡_};
 ghost use Rattle.flat.specs.Refusals.{emptyRange, fewCells};
 use faults::SessionFault;
+
+mod promises;
+
+pub use promises::finds_stand;
+pub use promises::places_stand;
+pub use promises::reads_stand;
 
 // An edit or a copy wants this many cells free, whatever it then takes.
 pub const CELLS_WANTED: usize = 2048;
