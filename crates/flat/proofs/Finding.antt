@@ -1,7 +1,7 @@
 -- The place at which a tally is reached: there is one below the total, and no other.
 use mathlib.Core.Path.{_≡_, sym, ap, _∙_}
 use mathlib.Core.Logic.{inl, inr}
-use mathlib.Core.List.{List, _++_}
+use mathlib.Core.List.{List}
 use Prim.Native.Nat.{ℕ, zero, suc, _+_, _≤_, _<_}
 use native.Mathlib.Numerals.{add-one}
 use native.Mathlib.Omega.{arith}
@@ -22,8 +22,8 @@ crossing : (f : ℕ → ℕ) (t n : ℕ) → f 0 ≤ t → t < f n → (p : ℕ)
 crossing f t zero low high = absurd (omega arith)
 crossing f t (suc n) low high =
     elim (cases-lt t (f n)) [
-      inl lt ↦ let rest = crossing f t n low lt in (rest .0, omega (arith, rest .1), rest .2)
-    | inr le ↦ (n, omega arith, (le, rw add-one high))
+      | inl lt ↦ let rest = crossing f t n low lt in (rest .0, omega (arith, rest .1), rest .2)
+      | inr le ↦ (n, omega arith, (le, rw add-one high))
     ]
 
 module _ {E A S : Type 0} (k : Meaning E A S) (tally : S → ℕ) (laws : Laws k) (tallies : Tallies k tally) where
@@ -56,16 +56,23 @@ module _ {E A S : Type 0} (k : Meaning E A S) (tally : S → ℕ) (laws : Laws k
 
     pub find-some : (t : ℕ) → t < tally (total k (atomsOf k es)) → (p : ℕ) × (p < extentOf k es) × Finds k tally es t p
     find-some t h =
-        let all : take (extentOf k es) (atomsOf k es) ≡ atomsOf k es = take-all (extentOf k es) (atomsOf k es) (omega (arith, extent-counts k es)) in
-        let found = crossing (tallyTo k tally es) t (extentOf k es) (omega (arith, tallies .none)) (omega (arith, ap (λ l. tally (total k l)) all)) in
+        let all : take (extentOf k es) (atomsOf k es) ≡ atomsOf k es = take-all _ (atomsOf k es) (omega (arith, extent-counts k es)) in
+        let low : tallyTo k tally es 0 ≤ t = omega (arith, tallies .none) in
+        let high : t < tallyTo k tally es (extentOf k es) = omega (arith, ap (λ l. tally (total k l)) all) in
+        let found = crossing (tallyTo k tally es) t (extentOf k es) low high in
         (found .0, found .1, record { reached = found .2 .0; passed = found .2 .1 })
+
+    -- a tally passed at a place is not reached behind it
+    passed-before : (t p q : ℕ) → Finds k tally es t p → Finds k tally es t q → p < q → ⊥
+    passed-before t p q a b h =
+        omega (arith, a .passed, b .reached, tally-grows (atomsOf k es) (p + 1) q atomic few-atoms (omega arith))
 
     pub find-one : (t p q : ℕ) → Finds k tally es t p → Finds k tally es t q → p ≡ q
     find-one t p q a b =
         elim (cases-order p q) [
-          inl same ↦ same
-        | inr (inl lt) ↦ absurd (omega (arith, a .passed, b .reached, tally-grows (atomsOf k es) (p + 1) q atomic few-atoms (omega arith)))
-        | inr (inr gt) ↦ absurd (omega (arith, b .passed, a .reached, tally-grows (atomsOf k es) (q + 1) p atomic few-atoms (omega arith)))
+          | inl same ↦ same
+          | inr (inl lt) ↦ absurd (passed-before t p q a b lt)
+          | inr (inr gt) ↦ absurd (passed-before t q p b a gt)
         ]
 
     pub find-none : (t p : ℕ) → Finds k tally es t p → t < tally (total k (atomsOf k es))

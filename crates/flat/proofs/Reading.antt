@@ -2,25 +2,16 @@
 use mathlib.Core.Path.{_≡_, refl, sym, ap, _∙_}
 use mathlib.Core.Logic.{inl, inr}
 use mathlib.Core.List.{List, [], _∷_, _++_}
-use Prim.Native.Nat.{ℕ, zero, suc, _+_, _-_, _<_, _≤_}
-use native.Mathlib.Nat.{zero-add, suc-add}
+use Prim.Native.Nat.{ℕ, _+_, _-_, _<_, _≤_}
 use native.Mathlib.Omega.{arith}
 use lib.ListN.{length}
 use Rattle.std.specs.Finite.{nth}
+use Rattle.std.proofs.iter.runs.Lists.{nth-left, nth-right}
 use Rattle.std.proofs.shelf.Tests.{cases-lt}
 use Rattle.kinds.specs.Kinds.{Meaning}
 use Rattle.kinds.specs.Places.{extent, extentOf, atomsOf}
 use Rattle.kinds.proofs.Places.{extent-counts, atoms-append}
 use Rattle.flat.specs.Questions.{HoldsAtom}
-
-nth-left : {X : Type 0} (xs ys : List X) (n : ℕ) → n < length xs → nth (xs ++ ys) n ≡ nth xs n
-nth-left [] ys n h = absurd (omega arith)
-nth-left (x ∷ xs) ys zero h = refl
-nth-left (x ∷ xs) ys (suc n) h = nth-left xs ys n (omega arith)
-
-nth-right : {X : Type 0} (xs ys : List X) (n : ℕ) → nth (xs ++ ys) (length xs + n) ≡ nth ys n
-nth-right [] ys n = ap (nth ys) (zero-add n)
-nth-right (x ∷ xs) ys n = ap (nth (x ∷ (xs ++ ys))) (suc-add (length xs) n) ∙ nth-right xs ys n
 
 module _ {E A S : Type 0} (k : Meaning E A S) where
   -- the first element holds the atoms inside it
@@ -28,22 +19,25 @@ module _ {E A S : Type 0} (k : Meaning E A S) where
   holds-here e es p h = record { earlier = []; later = es; whole = refl; place = omega arith; inside = h }
 
   -- what holds an atom of the rest holds it of the whole list
-  holds-behind : (x : E) (es : List E) (p : ℕ) (e : E) (d : ℕ) → extent k x ≤ p → HoldsAtom k es (p - extent k x) e d → HoldsAtom k (x ∷ es) p e d
+  holds-behind : (x : E) (es : List E) (p : ℕ) (e : E) (d : ℕ) → extent k x ≤ p → HoldsAtom k es (p - extent k x) e d
+      → HoldsAtom k (x ∷ es) p e d
   holds-behind x es p e d h a =
       record {
         earlier = x ∷ a .earlier;
         later = a .later;
         whole = ap (λ l. x ∷ l) (a .whole);
         place = omega (arith, a .place);
-        inside = a .inside
+        inside = a .inside;
       }
 
   pub read-some : (es : List E) (p : ℕ) → p < extentOf k es → (e : E) × (d : ℕ) × HoldsAtom k es p e d
   read-some [] p h = absurd (omega arith)
   read-some (x ∷ es) p h =
       elim (cases-lt p (extent k x)) [
-        inl lt ↦ (x, p, holds-here x es p lt)
-      | inr le ↦ let rest = read-some es (p - extent k x) (omega arith) in (rest .0, rest .1, holds-behind x es p (rest .0) (rest .1) le (rest .2))
+        | inl lt ↦ (x, p, holds-here x es p lt)
+        | inr le ↦
+            let rest = read-some es (p - extent k x) (omega arith) in
+            (rest .0, rest .1, holds-behind x es p (rest .0) (rest .1) le (rest .2))
       ]
 
   -- the extents before two elements of one list, with offsets inside them, differ if the elements do
@@ -61,7 +55,8 @@ module _ {E A S : Type 0} (k : Meaning E A S) where
 
   pub read-one : (es : List E) (p : ℕ) (e f : E) (c d : ℕ) → HoldsAtom k es p e c → HoldsAtom k es p f d → (e ≡ f) × (c ≡ d)
   read-one es p e f c d a b =
-      same-holder (a .earlier) (b .earlier) (a .later) (b .later) e f c d (sym (a .whole) ∙ b .whole) (a .place ∙ sym (b .place)) (a .inside) (b .inside)
+      same-holder (a .earlier) (b .earlier) (a .later) (b .later) e f c d (sym (a .whole) ∙ b .whole) (a .place ∙ sym (b .place))
+      (a .inside) (b .inside)
 
   -- the atom at a place is the holding element's atom at the offset
   pub read-atom : (es : List E) (p : ℕ) (e : E) (d : ℕ) → HoldsAtom k es p e d → nth (atomsOf k es) p ≡ nth (k .atoms e) d

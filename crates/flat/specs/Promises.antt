@@ -16,7 +16,7 @@ use Rattle.faults.specs.declared.session.SessionFault.{SessionFault}
 use Rattle.kinds.specs.Kinds.{Meaning, Laws, Lawful, Tallies, total}
 use Rattle.kinds.specs.Places.{extent, extentOf, atomsOf, before, after, divided, putAt, taken, without}
 use Rattle.flat.specs.States.{State, atSlip, versionOf, FreePlace, fresh, historyLimit, holdLimit}
-use Rattle.flat.specs.Calls.{Call, insert, cut, copy, paste, erase, undo, redo, forget, hold, release, Outcome, gave, refused}
+use Rattle.flat.specs.Calls.{Call, insert, cut, copy, paste, erase, undo, redo, forget, hold, release, gave, refused}
 use Rattle.flat.specs.Refusals.{elementLimit, cellsWanted, firstOf, holdsOut, refusals, atVersion}
 use Rattle.flat.specs.Refusals.{againstLength, againstRead, againstOverview, againstFind, againstRender}
 use Rattle.flat.specs.Questions.{HoldsAtom, Finds, atomsIn}

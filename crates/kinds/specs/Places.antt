@@ -1,6 +1,6 @@
 -- Places in a list of elements. A place is a number of atoms: the place p lies behind the first p
 -- atoms that the list means. Elements never merge: nothing below makes one element of two.
-use mathlib.Core.Bool.{Bool, true, false, cond}
+use mathlib.Core.Bool.{cond}
 use mathlib.Core.List.{List, [], _∷_, _++_}
 use Prim.Native.Nat.{ℕ, _+_, _-_}
 use lib.Dec.{eqb, leb}

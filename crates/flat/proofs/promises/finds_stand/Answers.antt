@@ -7,5 +7,5 @@ returns g c =
     record {
       some = λ tally laws tallies es t l few. find-some k tally laws tallies es l few t;
       one = λ tally laws tallies es t p q l few. find-one k tally laws tallies es l few t p q;
-      none = λ tally laws tallies es t p l few. find-none k tally laws tallies es l few t p
+      none = λ tally laws tallies es t p l few. find-none k tally laws tallies es l few t p;
     }

@@ -15,5 +15,5 @@ returns g c =
       twice = divides-twice k;
       puts = puts-atoms k;
       takes = λ laws es from len l. (taken-atoms k laws es from len l, without-atoms k laws es from len l);
-      pasted = paste-of-cut k
+      pasted = paste-of-cut k;
     }
