@@ -1,11 +1,12 @@
 //! How fast the proved core summarises a whole reel and writes it out, beside plain loops and memcpy
 //! over the same bytes, in one run.
-mod core;
+mod clock;
 mod plain;
+mod proved;
 
-use crate::core::{NONE, Summary};
+use crate::clock::processor_seconds;
+use crate::proved::{NONE, Summary};
 use std::hint::black_box;
-use std::time::Instant;
 
 const BYTES: usize = 100_000_000;
 const ROUNDS: usize = 11;
@@ -46,10 +47,10 @@ impl Bench {
     fn core_summary(&self, pile: Pile) -> Summary {
         let (first, second) = self.bytes.split_at(BYTES / 2);
         match pile {
-            Pile::Pcm => core::summary_pcm(&self.bytes),
-            Pile::MuLaw => core::summary_mulaw(&self.bytes),
-            Pile::Gain => core::summary_gain(&self.bytes, GAIN),
-            Pile::Joined => core::summary_pile(first, second, GAIN),
+            Pile::Pcm => proved::summary_pcm(&self.bytes),
+            Pile::MuLaw => proved::summary_mulaw(&self.bytes),
+            Pile::Gain => proved::summary_gain(&self.bytes, GAIN),
+            Pile::Joined => proved::summary_pile(first, second, GAIN),
         }
     }
 
@@ -67,10 +68,10 @@ impl Bench {
         let (first, second) = self.bytes.split_at(BYTES / 2);
         let out = &mut self.by_core;
         match pile {
-            Pile::Pcm => core::write_pcm(&self.bytes, out),
-            Pile::MuLaw => core::write_mulaw(&self.bytes, out),
-            Pile::Gain => core::write_gain(&self.bytes, GAIN, out),
-            Pile::Joined => core::write_pile(first, second, GAIN, out),
+            Pile::Pcm => proved::write_pcm(&self.bytes, out),
+            Pile::MuLaw => proved::write_mulaw(&self.bytes, out),
+            Pile::Gain => proved::write_gain(&self.bytes, GAIN, out),
+            Pile::Joined => proved::write_pile(first, second, GAIN, out),
         }
     }
 
@@ -94,9 +95,9 @@ impl Bench {
 
 /// Seconds that the work took.
 fn timed<T>(work: impl FnOnce() -> T) -> f64 {
-    let began = Instant::now();
+    let began = processor_seconds();
     black_box(work());
-    began.elapsed().as_secs_f64()
+    processor_seconds() - began
 }
 
 fn median(mut times: Vec<f64>) -> f64 {
@@ -136,32 +137,39 @@ fn measure(bench: &mut Bench, pile: Pile, name: &str) {
     let frames = bench.core_write(pile);
     assert_eq!(frames, bench.plain_write(pile), "{name}: counts differ");
     assert_eq!(frames, sum.frames as usize, "{name}: frames differ");
-    assert!(bench.by_core[0..2 * frames] == bench.by_plain[0..2 * frames], "{name}: bytes differ");
+    assert!(
+        bench.by_core[0..2 * frames] == bench.by_plain[0..2 * frames],
+        "{name}: bytes differ"
+    );
     let times = medians(
         bench,
         |b| timed(|| b.core_summary(pile)),
         |b| timed(|| b.plain_summary(pile)),
     );
     row(name, "summarise", frames, times);
-    let times = medians(bench, |b| timed(|| b.core_write(pile)), |b| timed(|| b.plain_write(pile)));
+    let times = medians(
+        bench,
+        |b| timed(|| b.core_write(pile)),
+        |b| timed(|| b.plain_write(pile)),
+    );
     row(name, "write", frames, times);
 }
 
 /// Short and damaged input: refusals leave the output as it was, and a short output is filled.
 fn refusals() {
     let mut out = [7; 8];
-    assert_eq!(core::summary_pcm(&[1, 2, 3]), NONE);
-    assert_eq!(core::summary_gain(&[1], 256), NONE);
-    assert_eq!(core::summary_pile(&[1], &[2], 256), NONE);
-    assert_eq!(core::summary_mulaw(&[]), NONE);
-    assert_eq!(core::write_pcm(&[1, 2, 3], &mut out), 0);
-    assert_eq!(core::write_gain(&[1, 2, 3], 256, &mut out), 0);
-    assert_eq!(core::write_pile(&[1, 2, 3], &[4], 256, &mut out), 0);
-    assert_eq!(core::write_mulaw(&[], &mut out), 0);
+    assert_eq!(proved::summary_pcm(&[1, 2, 3]), NONE);
+    assert_eq!(proved::summary_gain(&[1], 256), NONE);
+    assert_eq!(proved::summary_pile(&[1], &[2], 256), NONE);
+    assert_eq!(proved::summary_mulaw(&[]), NONE);
+    assert_eq!(proved::write_pcm(&[1, 2, 3], &mut out), 0);
+    assert_eq!(proved::write_gain(&[1, 2, 3], 256, &mut out), 0);
+    assert_eq!(proved::write_pile(&[1, 2, 3], &[4], 256, &mut out), 0);
+    assert_eq!(proved::write_mulaw(&[], &mut out), 0);
     assert_eq!(out, [7; 8]);
-    assert_eq!(core::write_pcm(&[1, 2, 3, 4], &mut out), 2);
+    assert_eq!(proved::write_pcm(&[1, 2, 3, 4], &mut out), 2);
     assert_eq!(out, [1, 2, 3, 4, 7, 7, 7, 7]);
-    assert_eq!(core::write_pcm(&[9; 6], &mut out[0..3]), 1);
+    assert_eq!(proved::write_pcm(&[9; 6], &mut out[0..3]), 1);
     assert_eq!(out, [9, 9, 3, 4, 7, 7, 7, 7]);
 }
 
@@ -180,4 +188,9 @@ fn main() {
     measure(&mut bench, Pile::MuLaw, "mu-law");
     measure(&mut bench, Pile::Gain, "gain over PCM");
     measure(&mut bench, Pile::Joined, "gain over joined");
+    let copy = median((0..ROUNDS).map(|_| timed(|| bench.copy())).collect());
+    println!(
+        "\nmemcpy of the input: {:.1} GB a second",
+        BYTES as f64 / copy / 1e9
+    );
 }

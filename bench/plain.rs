@@ -1,5 +1,5 @@
 //! The same work as plain loops, one for each pile, written without regard to the core.
-use crate::core::{NONE, Summary};
+use crate::proved::{NONE, Summary};
 
 /// The samples of the 256 mu-law bytes: ITU-T G.711's values times four.
 pub fn mulaw_table() -> [i16; 256] {
@@ -96,7 +96,13 @@ pub fn write_gain(bytes: &[u8], n: u16, out: &mut [u8]) -> usize {
 }
 
 #[inline(never)]
-pub fn write_pile(first: &[u8], second: &[u8], n: u16, table: &[i16; 256], out: &mut [u8]) -> usize {
+pub fn write_pile(
+    first: &[u8],
+    second: &[u8],
+    n: u16,
+    table: &[i16; 256],
+    out: &mut [u8],
+) -> usize {
     let (head, tail) = out.split_at_mut(first.len());
     write_gain(first, n, head);
     for (o, b) in tail.chunks_exact_mut(2).zip(second) {

@@ -1,6 +1,4 @@
 //! The proved functions of the static library `speed`, as safe Rust. They ask nothing of their caller.
-use std::os::raw::c_ushort;
-
 #[repr(C)]
 #[derive(Clone, Copy, PartialEq, Eq, Debug)]
 pub struct Summary {
@@ -11,23 +9,40 @@ pub struct Summary {
 }
 
 /// What `speed` answers of a reel that has no samples, and of bytes that are no reel.
-pub const NONE: Summary = Summary { frames: 0, low: i16::MAX, high: i16::MIN, clipped: 0 };
+pub const NONE: Summary = Summary {
+    frames: 0,
+    low: i16::MAX,
+    high: i16::MIN,
+    clipped: 0,
+};
 
 // A lent slice crosses as a pointer and then a length.
 unsafe extern "C" {
     fn speed_summary_pcm(bytes: *const u8, len: usize) -> Summary;
     fn speed_summary_mulaw(bytes: *const u8, len: usize) -> Summary;
-    fn speed_summary_gain(bytes: *const u8, len: usize, n: c_ushort) -> Summary;
-    fn speed_summary_pile(a: *const u8, a_len: usize, b: *const u8, b_len: usize, n: c_ushort) -> Summary;
+    fn speed_summary_gain(bytes: *const u8, len: usize, n: u16) -> Summary;
+    fn speed_summary_pile(
+        a: *const u8,
+        a_len: usize,
+        b: *const u8,
+        b_len: usize,
+        n: u16,
+    ) -> Summary;
     fn speed_write_pcm(bytes: *const u8, len: usize, out: *mut u8, out_len: usize) -> usize;
     fn speed_write_mulaw(bytes: *const u8, len: usize, out: *mut u8, out_len: usize) -> usize;
-    fn speed_write_gain(bytes: *const u8, len: usize, n: c_ushort, out: *mut u8, out_len: usize) -> usize;
+    fn speed_write_gain(
+        bytes: *const u8,
+        len: usize,
+        n: u16,
+        out: *mut u8,
+        out_len: usize,
+    ) -> usize;
     fn speed_write_pile(
         a: *const u8,
         a_len: usize,
         b: *const u8,
         b_len: usize,
-        n: c_ushort,
+        n: u16,
         out: *mut u8,
         out_len: usize,
     ) -> usize;
@@ -46,7 +61,15 @@ pub fn summary_gain(bytes: &[u8], n: u16) -> Summary {
 }
 
 pub fn summary_pile(first: &[u8], second: &[u8], n: u16) -> Summary {
-    unsafe { speed_summary_pile(first.as_ptr(), first.len(), second.as_ptr(), second.len(), n) }
+    unsafe {
+        speed_summary_pile(
+            first.as_ptr(),
+            first.len(),
+            second.as_ptr(),
+            second.len(),
+            n,
+        )
+    }
 }
 
 pub fn write_pcm(bytes: &[u8], out: &mut [u8]) -> usize {
