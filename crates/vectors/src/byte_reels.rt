@@ -1,4 +1,6 @@
 // Reels of bytes: which bytes are one, and the samples at the ends of the range.
+ghost use mathlib.Core.Path.{_≡_};
+ghost use Rattle.std.specs.Vec.{made};
 use faults::ReelFault;
 use faults::ReelFaultDisplay;
 use reels::MuLaw;
@@ -8,14 +10,18 @@ use reels::PcmReel;
 use reels::Reel;
 use std::test::*;
 
-pub(crate) fn pcm(bytes: &[u8]) -> Result<Pcm<'_>, Fail> {
+pub(crate) fn pcm(bytes: &[u8]) -> Result<Pcm<'_>, Fail>
+    ensures { λ r. ⌜ made r (λ p. now (p .bytes) ≡ now (bytes .entry)) ⌝ }
+{
     match Pcm::new(bytes) {
         Ok(reel) => Ok(reel),
         Err(fault) => Err(Fail::new(fault)),
     }
 }
 
-pub(crate) fn mulaw(bytes: &[u8]) -> Result<MuLaw<'_>, Fail> {
+pub(crate) fn mulaw(bytes: &[u8]) -> Result<MuLaw<'_>, Fail>
+    ensures { λ r. ⌜ made r (λ p. now (p .bytes) ≡ now (bytes .entry)) ⌝ }
+{
     match MuLaw::new(bytes) {
         Ok(reel) => Ok(reel),
         Err(fault) => Err(Fail::new(fault)),

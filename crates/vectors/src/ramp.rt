@@ -1,5 +1,5 @@
 ghost use mathlib.Core.Path.{_≡_};
-ghost use Prim.Native.Nat.{_≤_};
+ghost use Prim.Native.Nat.{_≤_, min};
 ghost use Rattle.vectors.specs.Ramp.{rampSamples, ramp-keeps};
 use reels::Reel;
 
@@ -13,10 +13,11 @@ pub(crate) struct Ramp {
 
 impl Ramp {
     pub(crate) fn new(frames: u32) -> Ramp
-        requires { ⌜ frames ≤ 1073741824 ⌝ }
-        ensures { λ r. ⌜ r .frames ≡ frames ⌝ }
+        ensures { λ r. ⌜ r .frames ≡ min frames 1073741824 ⌝ }
     {
-        Ramp { frames }
+        Ramp {
+            frames: frames.min(1073741824),
+        }
     }
 }
 
