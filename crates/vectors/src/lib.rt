@@ -15,4 +15,6 @@ mod profiles;
 #[cfg(test)]
 mod ramp;
 #[cfg(test)]
+mod sessions;
+#[cfg(test)]
 mod written;
