@@ -3,6 +3,8 @@
 ghost use Rattle.flat.specs.Promises.{ExtentCounts, DividesNothing, DividesInside, DividesAtoms, DividesTwice};
 ghost use Rattle.flat.specs.Promises.{PutsAtoms, TakesAtoms, PasteOfCut, ReadSome, ReadOne, ReadAtom};
 ghost use Rattle.flat.specs.Promises.{FindSome, FindOne, FindNone};
+ghost use Rattle.flat.specs.Promises.{CallSmallest, QuestionSmallest, RefusedChangesNothing};
+ghost use Rattle.flat.specs.Promises.{InsertAccepted, CutAccepted, EraseAccepted, CopyAccepted, PasteAccepted, ForgetAccepted};
 use kinds::Kind;
 
 // Places, dividing, and what edits make of the atoms.
@@ -33,6 +35,27 @@ pub fn finds_stand<K: Kind>(kind: &K) -> u8
     ensures some { λ _. ⌜ FindSome (meaning (now (kind .entry))) ⌝ }
     ensures one { λ _. ⌜ FindOne (meaning (now (kind .entry))) ⌝ }
     ensures none { λ _. ⌜ FindNone (meaning (now (kind .entry))) ⌝ }
+{
+    0
+}
+
+// Of several refusals that apply the smallest number is told, and a refused call changes nothing.
+pub fn refusals_stand<K: Kind>(kind: &K) -> u8
+    ensures calls { λ _. ⌜ CallSmallest (meaning (now (kind .entry))) ⌝ }
+    ensures questions { λ _. ⌜ QuestionSmallest (meaning (now (kind .entry))) ⌝ }
+    ensures unchanged { λ _. ⌜ RefusedChangesNothing (meaning (now (kind .entry))) ⌝ }
+{
+    0
+}
+
+// Where each call is accepted.
+pub fn acceptance_stands<K: Kind>(kind: &K) -> u8
+    ensures insert { λ _. ⌜ InsertAccepted (meaning (now (kind .entry))) ⌝ }
+    ensures cut { λ _. ⌜ CutAccepted (meaning (now (kind .entry))) ⌝ }
+    ensures erase { λ _. ⌜ EraseAccepted (meaning (now (kind .entry))) ⌝ }
+    ensures copy { λ _. ⌜ CopyAccepted (meaning (now (kind .entry))) ⌝ }
+    ensures paste { λ _. ⌜ PasteAccepted (meaning (now (kind .entry))) ⌝ }
+    ensures forget { λ _. ⌜ ForgetAccepted (meaning (now (kind .entry))) ⌝ }
 {
     0
 }

@@ -1,0 +1,425 @@
+-- Refusals: conditions listed by ascending numbers tell the smallest, a refused call changes nothing, and
+-- a call is accepted exactly where none of its conditions applies.
+use mathlib.Core.Path.{_≡_, refl, sym, ap, subst, _∙_}
+use mathlib.Core.Bool.{Bool, true, false, cond}
+use mathlib.Core.Logic.{_↔_, Iff·trans}
+use mathlib.Core.List.{List, [], _∷_, _++_}
+use Prim.Native.Nat.{ℕ, _+_, _≤_, _<_}
+use native.Mathlib.Omega.{arith}
+use lib.Dec.{eqb, leb, ltb}
+use lib.ListN.{length}
+use Rattle.std.specs.shelf.Lists.{All, Has}
+use Rattle.std.specs.declared.option.Option.{Option}
+use Rattle.std.specs.declared.option.Option.the-variants.{None, Some}
+use Rattle.std.specs.declared.result.Result.{Result}
+use Rattle.std.specs.declared.result.Result.the-variants.{Ok, Err}
+use Rattle.std.proofs.shelf.Elements.{all-has, has-append-right, all-weaker}
+use Rattle.std.proofs.shelf.Tests.{both-ways, ltb-false, le-ltb, leb-false, lt-leb, eqb-false, ne-eqb}
+use Rattle.faults.specs.Limits.{limit}
+use Rattle.faults.specs.Numbers.{sessionNumber}
+use Rattle.faults.specs.declared.causes.Cause.{Cause}
+use Rattle.faults.specs.declared.session.SessionFault.{SessionFault}
+use Rattle.faults.specs.declared.session.SessionFault.the-variants.{NotHeld, BeyondEnd, EmptyRange, RangePastEnd, Unlawful}
+use Rattle.faults.specs.declared.session.SessionFault.the-variants.{ClipboardEmpty, PastEmpty, FutureEmpty, HoldsOut, ExtentLimit}
+use Rattle.faults.specs.declared.session.SessionFault.the-variants.{ElementLimit, FewCells, BeyondTally, OutputShort, RenderTooLong, NoSample}
+use Rattle.kinds.specs.Kinds.{Meaning}
+use Rattle.kinds.specs.Places.{elementsOf, extentOf, putAt, without}
+use Rattle.flat.specs.States.{State}
+use Rattle.flat.specs.Calls.{Call, insert, cut, copy, paste, erase, undo, redo, forget, hold, release}
+use Rattle.flat.specs.Calls.{Outcome, accepted, gave, refused, wasAccepted}
+use Rattle.flat.specs.Refusals.{faultIf, firstOf, unless, isEmpty, unlawful, notHeld, elementLimit, cellsWanted}
+use Rattle.flat.specs.Refusals.{emptyRange, clipboardEmpty, tooMany, fewCells, beyondEnd, rangePastEnd, tooLong}
+use Rattle.flat.specs.Refusals.{againstPut, againstRange, againstRemoval, refusals, refusal}
+use Rattle.flat.specs.Refusals.{atVersion, againstLength, againstRead, againstOverview, againstFind, againstRender}
+use Rattle.flat.specs.Steps.{Turn, calling, decided, performed, step, Accepts}
+use Rattle.flat.specs.Promises.{Smallest, QuestionSmallest, MayInsert, MayRemove, MayCopy, MayPaste}
+use Rattle.flat.specs.Promises.{InsertAccepted, CutAccepted, EraseAccepted, CopyAccepted, PasteAccepted, ForgetAccepted}
+
+-- ## The first of conditions by ascending numbers
+
+-- where it is a fault, its number is n or more
+abbrev AtLeast : ℕ → Option SessionFault → Type 0
+AtLeast n o = (g : SessionFault) → o ≡ Some g → n ≤ sessionNumber g
+
+-- where it is a fault, its number is n
+record Numbered (n : ℕ) (o : Option SessionFault) : Type 0 where
+  told : (g : SessionFault) → o ≡ Some g → sessionNumber g ≡ n
+
+-- no fault has a number below n, and none one below the first
+record Ascending (n : ℕ) (faults : List (Option SessionFault)) : Type 0 where
+  bounded : All (AtLeast n) faults
+  least : (f : SessionFault) → firstOf faults ≡ Some f → All (AtLeast (sessionNumber f)) faults
+
+pub never-some : {X : Type 0} {x : X} → None ≡ Some x → ⊥
+never-some {X} {x} e = let z : _≡_ {A = ℕ} 0 1 = cc in omega arith
+
+same-some : {X : Type 0} (x y : X) → Some x ≡ Some y → x ≡ y
+same-some x y e = cc
+
+none-least : (n : ℕ) → AtLeast n None
+none-least n g e = absurd (never-some e)
+
+all-lower : (m n : ℕ) (faults : List (Option SessionFault)) → m ≤ n → All (AtLeast n) faults → All (AtLeast m) faults
+all-lower m n faults h a = all-weaker (AtLeast n) (AtLeast m) (λ o l g e. omega (arith, l g e)) faults a
+
+ascending-none : (n : ℕ) → Ascending n []
+ascending-none n = record { bounded = tt; least = λ f e. tt }
+
+-- a condition with its number stands before those from that number on
+ascending-next : (n m : ℕ) (o : Option SessionFault) (rest : List (Option SessionFault)) → n ≤ m → Numbered m o → Ascending m rest
+    → Ascending n (o ∷ rest)
+ascending-next n m None rest h t a =
+    record {
+      bounded = (none-least n, all-lower n m rest h (a .bounded));
+      least = λ f e. (none-least (sessionNumber f), a .least f e);
+    }
+ascending-next n m (Some f) rest h t a =
+    record {
+      bounded = (λ g e. omega (arith, t .told g e), all-lower n m rest h (a .bounded));
+      least =
+          λ g e.
+          let own : sessionNumber g ≡ m = t .told g e in
+          (λ x i. omega (arith, t .told x i), all-lower (sessionNumber g) m rest (omega arith) (a .bounded));
+    }
+
+-- conditions that may be left out
+ascending-unless : (n : ℕ) (o : Option SessionFault) (ys zs : List (Option SessionFault)) → Ascending n (ys ++ zs) → Ascending n zs
+    → Ascending n (unless o ys ++ zs)
+ascending-unless n None ys zs a b = a
+ascending-unless n (Some f) ys zs a b = b
+
+numbered-if : (f : SessionFault) (b : Bool) → Numbered (sessionNumber f) (faultIf b f)
+numbered-if f true = record { told = λ g e. ap sessionNumber (sym (same-some f g e)) }
+numbered-if f false = record { told = λ g e. absurd (never-some e) }
+
+numbered-made : {E : Type 0} (r : Result E Cause) → Numbered 5 (unlawful r)
+numbered-made (Ok e) = record { told = λ g e. absurd (never-some e) }
+numbered-made (Err c) = record { told = λ g e. ap sessionNumber (sym (same-some (Unlawful c) g e)) }
+
+numbered-held : {E : Type 0} (o : Option (List E)) → Numbered 1 (notHeld o)
+numbered-held None = record { told = λ g e. ap sessionNumber (sym (same-some NotHeld g e)) }
+numbered-held (Some es) = record { told = λ g e. absurd (never-some e) }
+
+first-applies : (faults : List (Option SessionFault)) (f : SessionFault) → firstOf faults ≡ Some f → Has faults (Some f)
+first-applies [] f e = absurd (never-some e)
+first-applies (None ∷ rest) f e = has-append-right (None ∷ []) rest (Some f) (first-applies rest f e)
+first-applies (Some g ∷ rest) f e = (0, omega arith, λ d. e)
+
+none-applies : (faults : List (Option SessionFault)) → firstOf faults ≡ None → All (λ o. o ≡ None) faults
+none-applies [] e = tt
+none-applies (None ∷ rest) e = (refl, none-applies rest e)
+none-applies (Some f ∷ rest) e = absurd (never-some (sym e))
+
+-- so the first is the smallest
+smallest : (n : ℕ) (faults : List (Option SessionFault)) → Ascending n faults → Smallest faults
+smallest n faults a =
+    record {
+      applies = first-applies faults;
+      least = λ f g e h. all-has (AtLeast (sessionNumber f)) faults (Some g) (a .least f e) h g refl;
+      none = λ e g h. never-some (sym (all-has (λ o. o ≡ None) faults (Some g) (none-applies faults e) h));
+    }
+
+last : (n m : ℕ) (o : Option SessionFault) → n ≤ m → Numbered m o → Ascending n (o ∷ [])
+last n m o h t = ascending-next n m o [] h t (ascending-none m)
+
+-- what is said against the list that an edit leaves, and against the cells
+ascending-limits : (n : ℕ) (o : Option SessionFault) (long many few : Bool) → n ≤ 10
+    → Ascending n (unless o (faultIf long ExtentLimit ∷ faultIf many ElementLimit ∷ []) ++ (faultIf few FewCells ∷ []))
+ascending-limits n o long many few h =
+    let cells : Ascending 11 (faultIf few FewCells ∷ []) = last 11 12 _ (omega arith) (numbered-if FewCells few) in
+    ascending-unless n o (faultIf long ExtentLimit ∷ faultIf many ElementLimit ∷ []) (faultIf few FewCells ∷ [])
+    (ascending-next n 10 _ _ h (numbered-if ExtentLimit long)
+    (ascending-next 10 11 _ _ (omega arith) (numbered-if ElementLimit many) cells))
+    (last n 12 _ (omega arith) (numbered-if FewCells few))
+
+-- what is said against a range, before what has larger numbers
+ascending-range : (empty past : Bool) (rest : List (Option SessionFault)) → Ascending 4 rest
+    → Ascending 0 (faultIf empty EmptyRange ∷ faultIf past RangePastEnd ∷ rest)
+ascending-range empty past rest a =
+    ascending-next 0 3 _ _ (omega arith) (numbered-if EmptyRange empty)
+    (ascending-next 3 4 _ _ (omega arith) (numbered-if RangePastEnd past) a)
+
+ascending-removal : (empty past many few : Bool) (o : Option SessionFault)
+    → Ascending 0 (faultIf empty EmptyRange ∷ faultIf past RangePastEnd ∷ (unless o (faultIf many ElementLimit ∷ []) ++ (faultIf few FewCells ∷ [])))
+ascending-removal empty past many few o =
+    ascending-range empty past _
+    (ascending-unless 4 o (faultIf many ElementLimit ∷ []) (faultIf few FewCells ∷ [])
+    (ascending-next 4 11 _ _ (omega arith) (numbered-if ElementLimit many) (last 11 12 _ (omega arith) (numbered-if FewCells few)))
+    (last 4 12 _ (omega arith) (numbered-if FewCells few)))
+
+module _ {E A S : Type 0} (k : Meaning E A S) where
+  ascending-call : (s : State E) (free : ℕ) (c : Call) → Ascending 0 (refusals k s free c)
+  ascending-call s free (insert p a b) =
+      ascending-next 0 2 _ _ (omega arith) (numbered-if BeyondEnd _)
+      (ascending-next 2 5 _ _ (omega arith) (numbered-made (k .made a b)) (ascending-limits 5 _ _ _ _ (omega arith)))
+  ascending-call s free (cut from len) = ascending-removal _ _ _ _ _
+  ascending-call s free (copy from len) = ascending-range _ _ _ (last 4 12 _ (omega arith) (numbered-if FewCells _))
+  ascending-call s free (paste p) =
+      ascending-next 0 2 _ _ (omega arith) (numbered-if BeyondEnd _)
+      (ascending-next 2 6 _ _ (omega arith) (numbered-if ClipboardEmpty _) (ascending-limits 6 _ _ _ _ (omega arith)))
+  ascending-call s free (erase from len) = ascending-removal _ _ _ _ _
+  ascending-call s free undo = last 0 7 _ (omega arith) (numbered-if PastEmpty _)
+  ascending-call s free redo = last 0 8 _ (omega arith) (numbered-if FutureEmpty _)
+  ascending-call s free forget = ascending-none 0
+  ascending-call s free hold = last 0 9 _ (omega arith) (numbered-if HoldsOut _)
+  ascending-call s free (release mark place) = last 0 1 _ (omega arith) (numbered-held _)
+
+  pub call-smallest : (s : State E) (free : ℕ) (c : Call) → Smallest (refusals k s free c)
+  call-smallest s free c = smallest 0 (refusals k s free c) (ascending-call s free c)
+
+-- a question is refused by 1 where there is no version to put it to
+question-smallest : {E : Type 0} (v : Option (List E)) (against : List E → List (Option SessionFault))
+    → ((es : List E) → Ascending 0 (against es)) → Smallest (atVersion v against)
+question-smallest None against a = smallest 0 (Some NotHeld ∷ []) (last 0 1 _ (omega arith) (numbered-if NotHeld true))
+question-smallest (Some es) against a = smallest 0 (against es) (a es)
+
+module _ {E A S : Type 0} (k : Meaning E A S) where
+  pub questions-smallest : QuestionSmallest k
+  questions-smallest =
+      record {
+        length = λ v. question-smallest v againstLength (λ es. ascending-none 0);
+        read = λ v p. question-smallest v (againstRead k p) (λ es. last 0 2 _ (omega arith) (numbered-if BeyondEnd _));
+        overview = λ v from len. question-smallest v (againstOverview k from len) (λ es. ascending-range _ _ [] (ascending-none 4));
+        find = λ tally v t. question-smallest v (againstFind k tally t) (λ es. last 0 13 _ (omega arith) (numbered-if BeyondTally _));
+        render =
+            λ v from len bytes missing.
+            question-smallest v (againstRender k from len bytes missing)
+            (λ es. ascending-range _ _ _
+            (ascending-next 4 14 _ _ (omega arith) (numbered-if OutputShort _)
+            (ascending-next 14 15 _ _ (omega arith) (numbered-if RenderTooLong _)
+            (last 15 17 _ (omega arith) (numbered-if NoSample _)))));
+      }
+
+  -- ## Accepted or refused
+
+  -- a call that is not refused is accepted
+  pub performed-accepted : (s : State E) (place : ℕ) (c : Call) → wasAccepted ((performed k s place c) .1) ≡ true
+  performed-accepted s place (insert p a b) = refl
+  performed-accepted s place (cut from len) = refl
+  performed-accepted s place (copy from len) = refl
+  performed-accepted s place (paste p) = refl
+  performed-accepted s place (erase from len) = refl
+  performed-accepted s place undo = refl
+  performed-accepted s place redo = refl
+  performed-accepted s place forget = refl
+  performed-accepted s place hold = refl
+  performed-accepted s place (release mark at) = refl
+
+  decided-refused : (s : State E) (o : Option SessionFault) (done : State E × Outcome) (f : SessionFault) → wasAccepted (done .1) ≡ true
+      → (decided s o done) .1 ≡ refused f → (decided s o done) .0 ≡ s
+  decided-refused s None done f ok e = absurd (both-ways (wasAccepted (done .1)) (ap wasAccepted e) ok)
+  decided-refused s (Some g) done f ok e = refl
+
+  pub refused-changes-nothing : (s : State E) (t : Turn) (f : SessionFault) → (step k s t) .1 ≡ refused f → (step k s t) .0 ≡ s
+  refused-changes-nothing s t f =
+      decided-refused s (refusal k s (t .free) (t .call)) (performed k s (t .place) (t .call)) f
+      (performed-accepted s (t .place) (t .call))
+
+  decided-accepted : (s : State E) (o : Option SessionFault) (done : State E × Outcome) → wasAccepted (done .1) ≡ true
+      → (wasAccepted ((decided s o done) .1) ≡ true) ↔ (o ≡ None)
+  decided-accepted s None done ok = (λ e. refl, λ e. ok)
+  decided-accepted s (Some g) done ok = (λ e. absurd (both-ways false refl e), λ e. absurd (never-some (sym e)))
+
+  -- a call is accepted exactly where there is no reason to refuse it
+  pub accepts : (s : State E) (t : Turn) → Accepts k s t ↔ (refusal k s (t .free) (t .call) ≡ None)
+  accepts s t =
+      decided-accepted s (refusal k s (t .free) (t .call)) (performed k s (t .place) (t .call)) (performed-accepted s (t .place) (t .call))
+
+-- ## Where no condition applies
+
+first-none : (o : Option SessionFault) (rest : List (Option SessionFault))
+    → (firstOf (o ∷ rest) ≡ None) ↔ ((o ≡ None) × (firstOf rest ≡ None))
+first-none None rest = (λ e. (refl, e), λ h. h .1)
+first-none (Some f) rest = (λ e. absurd (never-some (sym e)), λ h. absurd (never-some (sym (h .0))))
+
+-- conditions that have a meaning only where the two before them do not apply
+guarded-none : (a b : Option SessionFault) (ys zs : List (Option SessionFault))
+    → (firstOf (a ∷ b ∷ (unless (firstOf (a ∷ b ∷ [])) ys ++ zs)) ≡ None) ↔ ((a ≡ None) × (b ≡ None) × (firstOf (ys ++ zs) ≡ None))
+guarded-none None None ys zs = (λ e. (refl, refl, e), λ h. h .2)
+guarded-none None (Some f) ys zs = (λ e. absurd (never-some (sym e)), λ h. absurd (never-some (sym (h .1))))
+guarded-none (Some f) b ys zs = (λ e. absurd (never-some (sym e)), λ h. absurd (never-some (sym (h .0))))
+
+if-none : (b : Bool) (f : SessionFault) → (faultIf b f ≡ None) ↔ (b ≡ false)
+if-none true f = (λ e. absurd (never-some (sym e)), λ e. absurd (both-ways true e refl))
+if-none false f = (λ e. refl, λ e. refl)
+
+-- what each condition says where it does not apply
+pub not-above : (most n : ℕ) (f : SessionFault) → (faultIf (ltb most n) f ≡ None) ↔ (n ≤ most)
+not-above most n f = (λ e. ltb-false most n (if-none _ f .0 e), λ h. if-none _ f .1 (le-ltb most n h))
+
+pub not-reached : (end n : ℕ) (f : SessionFault) → (faultIf (leb end n) f ≡ None) ↔ (n < end)
+not-reached end n f = (λ e. leb-false end n (if-none _ f .0 e), λ h. if-none _ f .1 (lt-leb end n h))
+
+not-zero : (n : ℕ) (f : SessionFault) → (faultIf (eqb n 0) f ≡ None) ↔ (1 ≤ n)
+not-zero n f = (
+  λ e. let some : n ≡ 0 → ⊥ = eqb-false n 0 (if-none _ f .0 e) in omega arith,
+  λ h. if-none _ f .1 (ne-eqb n 0 (λ z. omega arith)),
+)
+
+pub not-empty : {X : Type 0} (xs : List X) (f : SessionFault) → (faultIf (isEmpty xs) f ≡ None) ↔ (1 ≤ length xs)
+not-empty [] f = (λ e. absurd (never-some (sym e)), λ h. absurd (omega arith))
+not-empty (x ∷ xs) f = (λ e. omega arith, λ h. refl)
+
+makes-some : {E : Type 0} (r : Result E Cause) → unlawful r ≡ None → (e : E) × (r ≡ Ok e)
+makes-some (Ok e) h = (e, refl)
+makes-some (Err c) h = absurd (never-some (sym h))
+
+module _ {E A S : Type 0} (k : Meaning E A S) where
+  -- ## Acceptance in plain words
+
+  -- elements can be put at a place
+  record MayPut (es : List E) (p : ℕ) (bad : Option SessionFault) (new : List E) (free : ℕ) : Type 0 where
+    place : p ≤ extentOf k es
+    good : bad ≡ None
+    extent : extentOf k es + extentOf k new ≤ limit
+    elements : length (putAt k p new es) ≤ elementLimit
+    cells : cellsWanted ≤ free
+
+  put-none : (es : List E) (p : ℕ) (bad : Option SessionFault) (new : List E) (free : ℕ)
+      → (firstOf (againstPut k es p bad new ++ (fewCells free ∷ [])) ≡ None) ↔ MayPut es p bad new free
+  put-none es p bad new free =
+      let split = guarded-none (beyondEnd k es p) bad (tooLong k es new ∷ tooMany (putAt k p new es) ∷ []) (fewCells free ∷ []) in
+      let long = first-none (tooLong k es new) (tooMany (putAt k p new es) ∷ fewCells free ∷ []) in
+      let many = first-none (tooMany (putAt k p new es)) (fewCells free ∷ []) in
+      let few = first-none (fewCells free) [] in
+      let inside = not-above (extentOf k es) p BeyondEnd in
+      let short = not-above limit (extentOf k es + extentOf k new) ExtentLimit in
+      let sparse = not-above elementLimit (length (putAt k p new es)) ElementLimit in
+      let roomy = not-above free cellsWanted FewCells in (
+        λ e.
+            let h = split .0 e in
+            let l = long .0 (h .2) in
+            let m = many .0 (l .1) in
+            record {
+              place = inside .0 (h .0);
+              good = h .1;
+              extent = short .0 (l .0);
+              elements = sparse .0 (m .0);
+              cells = roomy .0 (few .0 (m .1) .0);
+            },
+        λ m.
+            split .1 (
+              inside .1 (m .place),
+              m .good,
+              long .1 (short .1 (m .extent), many .1 (sparse .1 (m .elements), few .1 (roomy .1 (m .cells), refl))),
+            ),
+      )
+
+  remove-none : (s : State E) (from len free : ℕ)
+      → (firstOf (againstRemoval k (s .present) from len ++ (fewCells free ∷ [])) ≡ None) ↔ MayRemove k s from len free
+  remove-none s from len free =
+      let es = s .present in
+      let split = guarded-none (emptyRange len) (rangePastEnd k es from len) (tooMany (without k from len es) ∷ []) (fewCells free ∷ []) in
+      let many = first-none (tooMany (without k from len es)) (fewCells free ∷ []) in
+      let few = first-none (fewCells free) [] in
+      let some = not-zero len EmptyRange in
+      let inside = not-above (extentOf k es) (from + len) RangePastEnd in
+      let sparse = not-above elementLimit (length (without k from len es)) ElementLimit in
+      let roomy = not-above free cellsWanted FewCells in (
+        λ e.
+            let h = split .0 e in
+            let m = many .0 (h .2) in
+            record {
+              some = some .0 (h .0);
+              inside = inside .0 (h .1);
+              elements = sparse .0 (m .0);
+              cells = roomy .0 (few .0 (m .1) .0);
+            },
+        λ m.
+            split .1 (
+              some .1 (m .some),
+              inside .1 (m .inside),
+              many .1 (sparse .1 (m .elements), few .1 (roomy .1 (m .cells), refl)),
+            ),
+      )
+
+  copy-none : (s : State E) (from len free : ℕ)
+      → (firstOf (againstRange k (s .present) from len ++ (fewCells free ∷ [])) ≡ None) ↔ MayCopy k s from len free
+  copy-none s from len free =
+      let es = s .present in
+      let first = first-none (emptyRange len) (rangePastEnd k es from len ∷ fewCells free ∷ []) in
+      let second = first-none (rangePastEnd k es from len) (fewCells free ∷ []) in
+      let few = first-none (fewCells free) [] in
+      let some = not-zero len EmptyRange in
+      let inside = not-above (extentOf k es) (from + len) RangePastEnd in
+      let roomy = not-above free cellsWanted FewCells in (
+        λ e.
+            let h = first .0 e in
+            let i = second .0 (h .1) in
+            record { some = some .0 (h .0); inside = inside .0 (i .0); cells = roomy .0 (few .0 (i .1) .0) },
+        λ m. first .1 (some .1 (m .some), second .1 (inside .1 (m .inside), few .1 (roomy .1 (m .cells), refl))),
+      )
+
+  paste-none : (s : State E) (p free : ℕ) → (refusal k s free (paste p) ≡ None) ↔ MayPaste k s p free
+  paste-none s p free =
+      let put = put-none (s .present) p (clipboardEmpty s) (s .clipboard) free in
+      let some = not-empty (s .clipboard) ClipboardEmpty in (
+        λ e.
+            let m = put .0 e in
+            record {
+              place = m .place;
+              some = some .0 (m .good);
+              extent = m .extent;
+              elements = m .elements;
+              cells = m .cells;
+            },
+        λ m.
+            put .1
+            record {
+              place = m .place;
+              good = some .1 (m .some);
+              extent = m .extent;
+              elements = m .elements;
+              cells = m .cells;
+            },
+      )
+
+  -- over what the two numbers make
+  insert-none : (s : State E) (p a b free : ℕ) → (refusal k s free (insert p a b) ≡ None) ↔ MayInsert k s p a b free
+  insert-none s p a b free =
+      let es = s .present in
+      let against : Result E Cause → Option SessionFault =
+      λ r. firstOf (againstPut k es p (unlawful r) (elementsOf r) ++ (fewCells free ∷ [])) in (
+        λ e.
+            let good = (put-none es p (unlawful (k .made a b)) (elementsOf (k .made a b)) free .0 e) .good in
+            let some = makes-some (k .made a b) good in
+            let one = some .0 in
+            let m = put-none es p None (one ∷ []) free .0 (ap against (sym (some .1)) ∙ e) in
+            record {
+              place = m .place;
+              element = one;
+              made = some .1;
+              extent = omega (arith, m .extent);
+              elements = m .elements;
+              cells = m .cells;
+            },
+        λ m.
+            let one = m .element in
+            ap against (m .made)
+            ∙ put-none es p None (one ∷ []) free .1
+            record {
+              place = m .place;
+              good = refl;
+              extent = omega (arith, m .extent);
+              elements = m .elements;
+              cells = m .cells;
+            },
+      )
+
+  pub insert-accepted : InsertAccepted k
+  insert-accepted s p a b free place = Iff·trans (accepts k s (calling (insert p a b) free place)) (insert-none s p a b free)
+
+  pub cut-accepted : CutAccepted k
+  cut-accepted s from len free place = Iff·trans (accepts k s (calling (cut from len) free place)) (remove-none s from len free)
+
+  pub erase-accepted : EraseAccepted k
+  erase-accepted s from len free place = Iff·trans (accepts k s (calling (erase from len) free place)) (remove-none s from len free)
+
+  pub copy-accepted : CopyAccepted k
+  copy-accepted s from len free place = Iff·trans (accepts k s (calling (copy from len) free place)) (copy-none s from len free)
+
+  pub paste-accepted : PasteAccepted k
+  paste-accepted s p free place = Iff·trans (accepts k s (calling (paste p) free place)) (paste-none s p free)
+
+  pub forget-accepted : ForgetAccepted k
+  forget-accepted s free place = refl
