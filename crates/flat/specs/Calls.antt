@@ -49,8 +49,8 @@ abbrev pub holdOutcome : {V : Type 0} → (V → ℕ) → (V → ℕ) → Result
 holdOutcome markOf placeOf (Ok slip) = gave (markOf slip) (placeOf slip)
 holdOutcome markOf placeOf (Err f) = refused f
 
--- and of a release, which where it refuses gives its slip back beside the fault. That it is the very
--- slip that was handed in is no part of an outcome: a contract says it in a clause of its own.
+-- and of a release, which where it is refused hands its slip back beside the fault. That this is the very
+-- slip that was handed in is no part of an outcome: a contract says it in a clause beside Leads.
 abbrev pub releaseOutcome : {V W : Type 0} → Result V (SessionFault × W) → Outcome
 releaseOutcome (Ok v) = accepted
 releaseOutcome (Err f) = refused (f .0)
