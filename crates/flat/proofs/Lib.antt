@@ -1,3 +1,4 @@
 pub mod Finding
 pub mod Reading
 pub mod Refusals
+pub mod Runs

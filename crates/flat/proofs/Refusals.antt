@@ -227,7 +227,7 @@ module _ {E A S : Type 0} (k : Meaning E A S) where
 
 -- ## Where no condition applies
 
-first-none : (o : Option SessionFault) (rest : List (Option SessionFault))
+pub first-none : (o : Option SessionFault) (rest : List (Option SessionFault))
     → (firstOf (o ∷ rest) ≡ None) ↔ ((o ≡ None) × (firstOf rest ≡ None))
 first-none None rest = (λ e. (refl, e), λ h. h .1)
 first-none (Some f) rest = (λ e. absurd (never-some (sym e)), λ h. absurd (never-some (sym (h .0))))

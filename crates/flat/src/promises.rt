@@ -5,6 +5,7 @@ ghost use Rattle.flat.specs.Promises.{PutsAtoms, TakesAtoms, PasteOfCut, ReadS
 ghost use Rattle.flat.specs.Promises.{FindSome, FindOne, FindNone};
 ghost use Rattle.flat.specs.Promises.{CallSmallest, QuestionSmallest, RefusedChangesNothing};
 ghost use Rattle.flat.specs.Promises.{InsertAccepted, CutAccepted, EraseAccepted, CopyAccepted, PasteAccepted, ForgetAccepted};
+ghost use Rattle.flat.specs.Promises.{RunTied, RunUndo, RunRedo};
 use kinds::Kind;
 
 // Places, dividing, and what edits make of the atoms.
@@ -56,6 +57,16 @@ pub fn acceptance_stands<K: Kind>(kind: &K) -> u8
     ensures copy { λ _. ⌜ CopyAccepted (meaning (now (kind .entry))) ⌝ }
     ensures paste { λ _. ⌜ PasteAccepted (meaning (now (kind .entry))) ⌝ }
     ensures forget { λ _. ⌜ ForgetAccepted (meaning (now (kind .entry))) ⌝ }
+{
+    0
+}
+
+// Every list of calls on a session just started, refused ones included: its lists are what the edits in
+// force and the edits undone make.
+pub fn runs_stand<K: Kind>(kind: &K) -> u8
+    ensures tied { λ _. ⌜ RunTied (meaning (now (kind .entry))) ⌝ }
+    ensures undo { λ _. ⌜ RunUndo (meaning (now (kind .entry))) ⌝ }
+    ensures redo { λ _. ⌜ RunRedo (meaning (now (kind .entry))) ⌝ }
 {
     0
 }
