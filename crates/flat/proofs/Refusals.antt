@@ -205,15 +205,20 @@ module _ {E A S : Type 0} (k : Meaning E A S) where
   performed-accepted s place hold = refl
   performed-accepted s place (release mark at) = refl
 
-  decided-refused : (s : State E) (o : Option SessionFault) (done : State E × Outcome) (f : SessionFault) → wasAccepted (done .1) ≡ true
-      → (decided s o done) .1 ≡ refused f → (decided s o done) .0 ≡ s
-  decided-refused s None done f ok e = absurd (both-ways (wasAccepted (done .1)) (ap wasAccepted e) ok)
-  decided-refused s (Some g) done f ok e = refl
+  -- a call is refused, and then it leaves the state, or it is performed
+  decided-cases : (P : State E × Outcome → Type 0) (s : State E) (o : Option SessionFault) (done : State E × Outcome)
+      → ((f : SessionFault) → P (s, refused f)) → (o ≡ None → P done) → P (decided s o done)
+  decided-cases P s None done told ok = ok refl
+  decided-cases P s (Some f) done told ok = told f
+
+  pub step-cases : (P : State E × Outcome → Type 0) (s : State E) (t : Turn) → ((f : SessionFault) → P (s, refused f))
+      → (refusal k s (t .free) (t .call) ≡ None → P (performed k s (t .place) (t .call))) → P (step k s t)
+  step-cases P s t = decided-cases P s (refusal k s (t .free) (t .call)) (performed k s (t .place) (t .call))
 
   pub refused-changes-nothing : (s : State E) (t : Turn) (f : SessionFault) → (step k s t) .1 ≡ refused f → (step k s t) .0 ≡ s
   refused-changes-nothing s t f =
-      decided-refused s (refusal k s (t .free) (t .call)) (performed k s (t .place) (t .call)) f
-      (performed-accepted s (t .place) (t .call))
+      step-cases (λ r. r .1 ≡ refused f → r .0 ≡ s) s t (λ g e. refl)
+      (λ ok e. absurd (both-ways (wasAccepted ((performed k s (t .place) (t .call)) .1)) (ap wasAccepted e) (performed-accepted s (t .place) (t .call))))
 
   decided-accepted : (s : State E) (o : Option SessionFault) (done : State E × Outcome) → wasAccepted (done .1) ≡ true
       → (wasAccepted ((decided s o done) .1) ≡ true) ↔ (o ≡ None)
@@ -305,7 +310,7 @@ module _ {E A S : Type 0} (k : Meaning E A S) where
             ),
       )
 
-  remove-none : (s : State E) (from len free : ℕ)
+  pub remove-none : (s : State E) (from len free : ℕ)
       → (firstOf (againstRemoval k (s .present) from len ++ (fewCells free ∷ [])) ≡ None) ↔ MayRemove k s from len free
   remove-none s from len free =
       let es = s .present in
@@ -333,7 +338,7 @@ module _ {E A S : Type 0} (k : Meaning E A S) where
             ),
       )
 
-  copy-none : (s : State E) (from len free : ℕ)
+  pub copy-none : (s : State E) (from len free : ℕ)
       → (firstOf (againstRange k (s .present) from len ++ (fewCells free ∷ [])) ≡ None) ↔ MayCopy k s from len free
   copy-none s from len free =
       let es = s .present in
@@ -350,7 +355,7 @@ module _ {E A S : Type 0} (k : Meaning E A S) where
         λ m. first .1 (some .1 (m .some), second .1 (inside .1 (m .inside), few .1 (roomy .1 (m .cells), refl))),
       )
 
-  paste-none : (s : State E) (p free : ℕ) → (refusal k s free (paste p) ≡ None) ↔ MayPaste k s p free
+  pub paste-none : (s : State E) (p free : ℕ) → (refusal k s free (paste p) ≡ None) ↔ MayPaste k s p free
   paste-none s p free =
       let put = put-none (s .present) p (clipboardEmpty s) (s .clipboard) free in
       let some = not-empty (s .clipboard) ClipboardEmpty in (
@@ -375,7 +380,7 @@ module _ {E A S : Type 0} (k : Meaning E A S) where
       )
 
   -- over what the two numbers make
-  insert-none : (s : State E) (p a b free : ℕ) → (refusal k s free (insert p a b) ≡ None) ↔ MayInsert k s p a b free
+  pub insert-none : (s : State E) (p a b free : ℕ) → (refusal k s free (insert p a b) ≡ None) ↔ MayInsert k s p a b free
   insert-none s p a b free =
       let es = s .present in
       let against : Result E Cause → Option SessionFault =

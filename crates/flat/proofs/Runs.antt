@@ -17,11 +17,11 @@ use Rattle.kinds.specs.Places.{putAt, taken}
 use Rattle.flat.specs.States.{State, fresh, kept, historyLimit, edited, undoneTo, redoneTo, afterForget}
 use Rattle.flat.specs.Calls.{Call, insert, cut, copy, paste, erase, undo, redo, forget, hold, release, wasAccepted}
 use Rattle.flat.specs.Refusals.{refusal, pastEmpty, futureEmpty}
-use Rattle.flat.specs.Steps.{Turn, calling, decided, performed, step, Accepts, run, outcomes}
+use Rattle.flat.specs.Steps.{Turn, calling, performed, step, Accepts, run, outcomes}
 use Rattle.flat.specs.Force.{Edit, inserting, removing, pasting, Log, noEdits, withEdit, withTook, withUndo, withRedo, withForget}
 use Rattle.flat.specs.Force.{makesOne, makes, noted, notedIf, logged, acceptances, undoableOnce, undoableIf, undoable}
 use Rattle.flat.specs.Promises.{Tied, RunTied, RunUndo, RunRedo}
-use Rattle.flat.proofs.Refusals.{first-none, not-empty, accepts, performed-accepted}
+use Rattle.flat.proofs.Refusals.{first-none, not-empty, accepts, performed-accepted, step-cases}
 
 kept-length : {E : Type 0} (versions : List (List E)) → length (kept versions) ≡ min historyLimit (length versions)
 unfolding kept
@@ -222,21 +222,20 @@ module _ {E A S : Type 0} (k : Meaning E A S) where
   call-tied s g n free place hold ok t = tied-beside s g n _ _ _ (t .clipboard) t
   call-tied s g n free place (release mark at) ok t = tied-beside s g n _ _ _ (t .clipboard) t
 
-  turn-tied : (s : State E) (g : Log E) (n : ℕ) (t : Turn) (o : Option SessionFault) → refusal k s (t .free) (t .call) ≡ o → Tied k s g n
-      → let ended = decided s o (performed k s (t .place) (t .call)) in
+  turn-tied : (s : State E) (g : Log E) (n : ℕ) (t : Turn) → Tied k s g n
+      → let ended = step k s t in
       Tied k (ended .0) (notedIf k (wasAccepted (ended .1)) g (t .call)) (undoableIf (wasAccepted (ended .1)) n (t .call))
-  turn-tied s g n t None is tied =
-      let ended = performed k s (t .place) (t .call) in
-      subst (λ (b : Bool). Tied k (ended .0) (notedIf k b g (t .call)) (undoableIf b n (t .call)))
-      (sym (performed-accepted k s (t .place) (t .call)))
-      (call-tied s g n (t .free) (t .place) (t .call) is tied)
-  turn-tied s g n t (Some f) is tied = tied
+  turn-tied s g n t tied =
+      let Next : State E → Bool → Type 0 = λ after b. Tied k after (notedIf k b g (t .call)) (undoableIf b n (t .call)) in
+      step-cases k (λ r. Next (r .0) (wasAccepted (r .1))) s t
+      (λ f. tied)
+      (λ ok. subst (Next ((performed k s (t .place) (t .call)) .0)) (sym (performed-accepted k s (t .place) (t .call)))
+      (call-tied s g n (t .free) (t .place) (t .call) ok tied))
 
   run-tied-from : (ts : List Turn) (s : State E) (g : Log E) (n : ℕ) → Tied k s g n
       → Tied k (run k s ts) (logged k g (acceptances (outcomes k s ts))) (undoable n (acceptances (outcomes k s ts)))
   run-tied-from [] s g n tied = tied
-  run-tied-from (t ∷ ts) s g n tied =
-      run-tied-from ts ((step k s t) .0) _ _ (turn-tied s g n t (refusal k s (t .free) (t .call)) refl tied)
+  run-tied-from (t ∷ ts) s g n tied = run-tied-from ts ((step k s t) .0) _ _ (turn-tied s g n t tied)
 
   fresh-tied : (mark : ℕ) → Tied k (fresh mark) noEdits 0
   fresh-tied mark =

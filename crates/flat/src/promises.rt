@@ -5,7 +5,7 @@ ghost use Rattle.flat.specs.Promises.{PutsAtoms, TakesAtoms, PasteOfCut, ReadS
 ghost use Rattle.flat.specs.Promises.{FindSome, FindOne, FindNone};
 ghost use Rattle.flat.specs.Promises.{CallSmallest, QuestionSmallest, RefusedChangesNothing};
 ghost use Rattle.flat.specs.Promises.{InsertAccepted, CutAccepted, EraseAccepted, CopyAccepted, PasteAccepted, ForgetAccepted};
-ghost use Rattle.flat.specs.Promises.{RunTied, RunUndo, RunRedo};
+ghost use Rattle.flat.specs.Promises.{RunTied, RunUndo, RunRedo, RunSound};
 use kinds::Kind;
 
 // Places, dividing, and what edits make of the atoms.
@@ -67,6 +67,7 @@ pub fn runs_stand<K: Kind>(kind: &K) -> u8
     ensures tied { λ _. ⌜ RunTied (meaning (now (kind .entry))) ⌝ }
     ensures undo { λ _. ⌜ RunUndo (meaning (now (kind .entry))) ⌝ }
     ensures redo { λ _. ⌜ RunRedo (meaning (now (kind .entry))) ⌝ }
+    ensures sound { λ _. ⌜ RunSound (meaning (now (kind .entry))) ⌝ }
 {
     0
 }
