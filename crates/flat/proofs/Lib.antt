@@ -1,4 +1,5 @@
 pub mod Finding
+pub mod Holds
 pub mod Reading
 pub mod Refusals
 pub mod Runs

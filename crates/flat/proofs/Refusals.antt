@@ -53,7 +53,7 @@ record Ascending (n : ℕ) (faults : List (Option SessionFault)) : Type 0 where
 pub never-some : {X : Type 0} {x : X} → None ≡ Some x → ⊥
 never-some {X} {x} e = let z : _≡_ {A = ℕ} 0 1 = cc in omega arith
 
-same-some : {X : Type 0} (x y : X) → Some x ≡ Some y → x ≡ y
+pub same-some : {X : Type 0} (x y : X) → Some x ≡ Some y → x ≡ y
 same-some x y e = cc
 
 none-least : (n : ℕ) → AtLeast n None
@@ -207,18 +207,20 @@ module _ {E A S : Type 0} (k : Meaning E A S) where
 
   -- a call is refused, and then it leaves the state, or it is performed
   decided-cases : (P : State E × Outcome → Type 0) (s : State E) (o : Option SessionFault) (done : State E × Outcome)
-      → ((f : SessionFault) → P (s, refused f)) → (o ≡ None → P done) → P (decided s o done)
+      → ((f : SessionFault) → o ≡ Some f → P (s, refused f)) → (o ≡ None → P done) → P (decided s o done)
   decided-cases P s None done told ok = ok refl
-  decided-cases P s (Some f) done told ok = told f
+  decided-cases P s (Some f) done told ok = told f refl
 
-  pub step-cases : (P : State E × Outcome → Type 0) (s : State E) (t : Turn) → ((f : SessionFault) → P (s, refused f))
+  pub step-cases : (P : State E × Outcome → Type 0) (s : State E) (t : Turn)
+      → ((f : SessionFault) → refusal k s (t .free) (t .call) ≡ Some f → P (s, refused f))
       → (refusal k s (t .free) (t .call) ≡ None → P (performed k s (t .place) (t .call))) → P (step k s t)
   step-cases P s t = decided-cases P s (refusal k s (t .free) (t .call)) (performed k s (t .place) (t .call))
 
   pub refused-changes-nothing : (s : State E) (t : Turn) (f : SessionFault) → (step k s t) .1 ≡ refused f → (step k s t) .0 ≡ s
   refused-changes-nothing s t f =
-      step-cases (λ r. r .1 ≡ refused f → r .0 ≡ s) s t (λ g e. refl)
-      (λ ok e. absurd (both-ways (wasAccepted ((performed k s (t .place) (t .call)) .1)) (ap wasAccepted e) (performed-accepted s (t .place) (t .call))))
+      let done = performed k s (t .place) (t .call) in
+      step-cases (λ r. r .1 ≡ refused f → r .0 ≡ s) s t (λ g told e. refl)
+      (λ ok e. absurd (both-ways (wasAccepted (done .1)) (ap wasAccepted e) (performed-accepted s (t .place) (t .call))))
 
   decided-accepted : (s : State E) (o : Option SessionFault) (done : State E × Outcome) → wasAccepted (done .1) ≡ true
       → (wasAccepted ((decided s o done) .1) ≡ true) ↔ (o ≡ None)

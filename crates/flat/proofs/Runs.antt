@@ -228,7 +228,7 @@ module _ {E A S : Type 0} (k : Meaning E A S) where
   turn-tied s g n t tied =
       let Next : State E → Bool → Type 0 = λ after b. Tied k after (notedIf k b g (t .call)) (undoableIf b n (t .call)) in
       step-cases k (λ r. Next (r .0) (wasAccepted (r .1))) s t
-      (λ f. tied)
+      (λ f told. tied)
       (λ ok. subst (Next ((performed k s (t .place) (t .call)) .0)) (sym (performed-accepted k s (t .place) (t .call)))
       (call-tied s g n (t .free) (t .place) (t .call) ok tied))
 

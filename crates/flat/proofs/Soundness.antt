@@ -170,7 +170,7 @@ module _ {E A S : Type 0} (k : Meaning E A S) where
     run-sound-from [] s possible sound = sound
     run-sound-from (t ∷ ts) s possible sound =
         run-sound-from ts ((step k s t) .0) (possible .1)
-        (step-cases k (λ r. AllSound (r .0)) s t (λ f. sound)
+        (step-cases k (λ r. AllSound (r .0)) s t (λ f told. sound)
         (λ ok. call-sound s (t .free) (t .place) (t .call) ok (possible .0 .fits) sound))
 
   pub run-sound : RunSound k

@@ -8,6 +8,7 @@ mod promises;
 
 pub use promises::acceptance_stands;
 pub use promises::finds_stand;
+pub use promises::holds_stand;
 pub use promises::places_stand;
 pub use promises::reads_stand;
 pub use promises::refusals_stand;
