@@ -22,7 +22,7 @@ use Rattle.flat.specs.Calls.{Call, insert, cut, copy, paste, erase, undo, redo
 use Rattle.flat.specs.Calls.{Outcome, accepted, gave, refused}
 use Rattle.flat.specs.Refusals.{refusal, holdsOut, notHeld}
 use Rattle.flat.specs.Steps.{Turn, calling, performed, step, run, Possible, AllPossible}
-use Rattle.flat.specs.Promises.{HoldFinds, HeldSince, RunHeld, RunRelease, RunHold, RunPlaces}
+use Rattle.flat.specs.Promises.{HoldFinds, HeldSince, RunHeld, RunApart, RunRelease, RunHold, RunPlaces}
 use Rattle.flat.proofs.Refusals.{never-some, same-some, first-none, not-reached, accepts, step-cases}
 
 -- ## Free places
@@ -81,8 +81,8 @@ set-some (o ∷ rest) (suc i) (suc j) v x e =
 same-release : (mark other at place : ℕ) → release mark at ≡ release other place → at ≡ place
 same-release mark other at place e = cc
 
-same-gave : (mark other at place : ℕ) → gave mark at ≡ gave other place → at ≡ place
-same-gave mark other at place e = cc
+same-gave : (mark other at place : ℕ) → gave mark at ≡ gave other place → (mark ≡ other) × (at ≡ place)
+same-gave mark other at place e = (cc, cc)
 
 refused-gave : (f : SessionFault) (mark place : ℕ) → refused f ≡ gave mark place → ⊥
 refused-gave f mark place e = let z : _≡_ {A = ℕ} 0 1 = cc in omega arith
@@ -245,24 +245,34 @@ module _ {E A S : Type 0} (k : Meaning E A S) where
       ])
       (t .call))
 
+  -- a slip has the session's mark, and the place that the turn says
+  gave-by : (s : State E) (t : Turn) (mark place : ℕ) → (step k s t) .1 ≡ gave mark place
+      → (s .mark ≡ mark) × (t .place ≡ place) × ((step k s t) .0 ≡ afterHold s (t .place))
+  gave-by s t mark place =
+      let By : State E × Outcome → Type 0 =
+      λ r. r .1 ≡ gave mark place → (s .mark ≡ mark) × (t .place ≡ place) × (r .0 ≡ afterHold s (t .place)) in
+      step-cases k By s t
+      (λ f told e. absurd (refused-gave f mark place e))
+      (λ ok. place-cases (λ c r. By r) s (t .place)
+      (λ c after b e. absurd (accepted-gave mark place e))
+      (λ e. let same = same-gave (s .mark) mark (t .place) place e in (same .0, same .1, refl))
+      (λ m at e. absurd (accepted-gave mark place e))
+      (t .call))
+
+  given-free : (s : State E) (t : Turn) (mark place : ℕ) → Possible k s t → (step k s t) .1 ≡ gave mark place → FreePlace s place
+  given-free s t mark place possible given =
+      let by = gave-by s t mark place given in
+      subst (FreePlace s) (by .1) (possible .place-free (given ∙ ap (λ (m : ℕ). gave m place) (sym (by .0)) ∙ ap (gave (s .mark)) (sym (by .1))))
+
   -- a place that a hold gave holds the present list
   version-given : (s : State E) (t : Turn) (mark place : ℕ) → Possible k s t → length (s .held) ≡ holdLimit
       → (step k s t) .1 ≡ gave mark place → getD ((step k s t) .0 .held) place None ≡ Some (s .present)
-  version-given s t mark place possible places =
-      let Given : State E × Outcome → Type 0 =
-      λ r. (r .1 ≡ gave (s .mark) (t .place) → FreePlace s (t .place)) → r .1 ≡ gave mark place
-      → getD (r .0 .held) place None ≡ Some (s .present) in
-      step-cases k Given s t
-      (λ f told free e. absurd (refused-gave f mark place e))
-      (λ ok. place-cases (λ c r. Given r) s (t .place)
-      (λ c after b free e. absurd (accepted-gave mark place e))
-      (λ free e.
-      let same : t .place ≡ place = same-gave (s .mark) mark (t .place) place e in
-      ap (λ (i : ℕ). getD (set (s .held) (t .place) (Some (s .present))) i None) (sym same)
-      ∙ getD-set-same (s .held) (t .place) (Some (s .present)) None (omega (arith, free refl .0)))
-      (λ m at free e. absurd (accepted-gave mark place e))
-      (t .call))
-      (possible .place-free)
+  version-given s t mark place possible places given =
+      let by = gave-by s t mark place given in
+      let free = given-free s t mark place possible given in
+      ap (λ (r : State E). getD (r .held) place None) (by .2)
+      ∙ ap (λ (i : ℕ). getD (set (s .held) i (Some (s .present))) place None) (by .1)
+      ∙ getD-set-same (s .held) place (Some (s .present)) None (omega (arith, free .0))
 
   -- ## Every list of calls
 
@@ -273,6 +283,10 @@ module _ {E A S : Type 0} (k : Meaning E A S) where
   possible-append : (xs ys : List Turn) (s : State E) → AllPossible k s (xs ++ ys) → AllPossible k (run k s xs) ys
   possible-append [] ys s possible = possible
   possible-append (t ∷ xs) ys s possible = possible-append xs ys ((step k s t) .0) (possible .1)
+
+  possible-front : (xs ys : List Turn) (s : State E) → AllPossible k s (xs ++ ys) → AllPossible k s xs
+  possible-front [] ys s possible = tt
+  possible-front (t ∷ xs) ys s possible = (possible .0, possible-front xs ys ((step k s t) .0) (possible .1))
 
   abbrev Unreleased : ℕ → ℕ → List Turn → Type 0
   Unreleased mark place ts = All (λ t. t .call ≡ release mark place → ⊥) ts
@@ -285,6 +299,22 @@ module _ {E A S : Type 0} (k : Meaning E A S) where
       version-stays ts ((step k s t) .0) place es (possible .1)
       (subst (λ (m : ℕ). Unreleased m place ts) (sym own) (unreleased .1))
       (version-kept s t place es (possible .0) (unreleased .0) here)
+
+  -- a place that is given is not given again before it is released
+  pub run-apart : RunApart k
+  run-apart mark earlier between later one other place possible first second unreleased =
+      let s = run k (fresh mark) earlier in
+      let after = (step k s one) .0 in
+      let before = run k after between in
+      let own : after .mark ≡ mark = step-places s one .mark ∙ run-places mark earlier .0 in
+      let on = possible-append earlier (one ∷ (between ++ (other ∷ later))) (fresh mark) possible in
+      let still : getD (before .held) place None ≡ Some (s .present) =
+      version-stays between after place (s .present) (possible-front between (other ∷ later) after (on .1))
+      (subst (λ (m : ℕ). Unreleased m place between) (sym own) unreleased)
+      (version-given s one mark place (on .0) (run-places mark earlier .1) first) in
+      let there : run k (fresh mark) (earlier ++ (one ∷ between)) ≡ before = run-append earlier (one ∷ between) (fresh mark) in
+      let again = subst (λ (r : State E). (step k r other) .1 ≡ gave mark place) there second in
+      never-some (sym (given-free before other mark place (possible-append between (other ∷ later) after (on .1) .0) again .1) ∙ still)
 
   -- as HeldSince, from any state on
   record HeldFrom (mark : ℕ) (s : State E) (ts : List Turn) (place : ℕ) (es : List E) : Type 0 where

@@ -245,6 +245,15 @@ module _ {E A S : Type 0} (k : Meaning E A S) where
   RunHeld = (mark : ℕ) (ts : List Turn) → AllPossible k (fresh mark) ts → (m place : ℕ) (es : List E)
       → (versionOf (stateAfter mark ts) (atSlip m place) ≡ Some es) ↔ ((m ≡ mark) × HeldSince mark ts place es)
 
+  -- Two unreleased slips never share a place: of two holds that gave it, the first one's slip was released
+  -- before the second.
+  abbrev pub RunApart : Type 0
+  RunApart = (mark : ℕ) (earlier between later : List Turn) (one other : Turn) (place : ℕ)
+      → AllPossible k (fresh mark) (earlier ++ (one ∷ (between ++ (other ∷ later))))
+      → (step k (stateAfter mark earlier) one) .1 ≡ gave mark place
+      → (step k (stateAfter mark (earlier ++ (one ∷ between))) other) .1 ≡ gave mark place
+      → All (λ t. t .call ≡ release mark place → ⊥) between → ⊥
+
   -- a slip's release is accepted where its version is held, and a hold where some place is free
   abbrev pub RunRelease : Type 0
   RunRelease = (mark : ℕ) (ts : List Turn) → AllPossible k (fresh mark) ts → (m at free place : ℕ)

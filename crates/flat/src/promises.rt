@@ -6,7 +6,7 @@ ghost use Rattle.flat.specs.Promises.{FindSome, FindOne, FindNone};
 ghost use Rattle.flat.specs.Promises.{CallSmallest, QuestionSmallest, RefusedChangesNothing};
 ghost use Rattle.flat.specs.Promises.{InsertAccepted, CutAccepted, EraseAccepted, CopyAccepted, PasteAccepted, ForgetAccepted};
 ghost use Rattle.flat.specs.Promises.{RunTied, RunUndo, RunRedo, RunSound};
-ghost use Rattle.flat.specs.Promises.{HoldFinds, RunPlaces, RunHeld, RunRelease, RunHold};
+ghost use Rattle.flat.specs.Promises.{HoldFinds, RunPlaces, RunHeld, RunApart, RunRelease, RunHold};
 use kinds::Kind;
 
 // Places, dividing, and what edits make of the atoms.
@@ -78,6 +78,7 @@ pub fn holds_stand<K: Kind>(kind: &K) -> u8
     ensures finds { λ _. ⌜ HoldFinds (meaning (now (kind .entry))) ⌝ }
     ensures places { λ _. ⌜ RunPlaces (meaning (now (kind .entry))) ⌝ }
     ensures held { λ _. ⌜ RunHeld (meaning (now (kind .entry))) ⌝ }
+    ensures apart { λ _. ⌜ RunApart (meaning (now (kind .entry))) ⌝ }
     ensures release { λ _. ⌜ RunRelease (meaning (now (kind .entry))) ⌝ }
     ensures hold { λ _. ⌜ RunHold (meaning (now (kind .entry))) ⌝ }
 {

@@ -1,4 +1,4 @@
-use Rattle.flat.proofs.Holds.{hold-finds, run-places, run-held, run-release, run-hold}
+use Rattle.flat.proofs.Holds.{hold-finds, run-places, run-held, run-apart, run-release, run-hold}
 use Rattle.flat.proofs.promises.holds_stand.Needs as need
 
 pub returns : need.returns
@@ -8,6 +8,7 @@ returns g c =
       finds = hold-finds;
       places = run-places k;
       held = run-held k;
+      apart = run-apart k;
       release = run-release k;
       hold = run-hold k;
     }
