@@ -23,7 +23,7 @@ use Rattle.flat.specs.Calls.{Outcome, accepted, gave, refused}
 use Rattle.flat.specs.Refusals.{refusal, holdsOut, notHeld}
 use Rattle.flat.specs.Steps.{Turn, calling, performed, step, run, Possible, AllPossible}
 use Rattle.flat.specs.Promises.{HoldFinds, HeldSince, RunHeld, RunApart, RunRelease, RunHold, RunPlaces}
-use Rattle.flat.proofs.Refusals.{never-some, same-some, first-none, not-reached, accepts, step-cases}
+use Rattle.flat.proofs.Refusals.{never-some, same-some, only-none, not-reached, accepts, step-cases}
 
 -- ## Free places
 
@@ -126,12 +126,7 @@ module _ {E A S : Type 0} (k : Meaning E A S) where
   -- a release is accepted where its slip stands for a version
   release-none : (s : State E) (free mark place : ℕ)
       → (refusal k s free (release mark place) ≡ None) ↔ ((es : List E) × (heldBy s mark place ≡ Some es))
-  release-none s free mark place =
-      let only = first-none (notHeld (heldBy s mark place)) [] in
-      let found = held-some (heldBy s mark place) in (λ e. found .0 (only .0 e .0), λ h. only .1 (found .1 h, refl))
-
-  hold-none : (s : State E) (free : ℕ) → (refusal k s free hold ≡ None) ↔ (holdsOut s ≡ None)
-  hold-none s free = let only = first-none (holdsOut s) [] in (λ e. only .0 e .0, λ h. only .1 (h, refl))
+  release-none s free mark place = only-none (notHeld (heldBy s mark place)) _ (held-some (heldBy s mark place))
 
   -- ## One call
 
@@ -412,4 +407,4 @@ module _ {E A S : Type 0} (k : Meaning E A S) where
   pub run-hold : RunHold k
   run-hold mark ts free place =
       let s = run k (fresh mark) ts in
-      Iff·trans (accepts k s (calling hold free place)) (Iff·trans (hold-none s free) (free-place s (run-places mark ts .1)))
+      Iff·trans (accepts k s (calling hold free place)) (only-none (holdsOut s) _ (free-place s (run-places mark ts .1)))

@@ -1,10 +1,10 @@
 -- Refusals: conditions listed by ascending numbers tell the smallest, a refused call changes nothing, and
 -- a call is accepted exactly where none of its conditions applies.
 use mathlib.Core.Path.{_≡_, refl, sym, ap, subst, _∙_}
-use mathlib.Core.Bool.{Bool, true, false, cond}
+use mathlib.Core.Bool.{Bool, true, false, _||_}
 use mathlib.Core.Logic.{_↔_, Iff·trans}
 use mathlib.Core.List.{List, [], _∷_, _++_}
-use Prim.Native.Nat.{ℕ, _+_, _≤_, _<_}
+use Prim.Native.Nat.{ℕ, _+_, _*_, _≤_, _<_}
 use native.Mathlib.Omega.{arith}
 use lib.Dec.{eqb, leb, ltb}
 use lib.ListN.{length}
@@ -14,25 +14,28 @@ use Rattle.std.specs.declared.option.Option.the-variants.{None, Some}
 use Rattle.std.specs.declared.result.Result.{Result}
 use Rattle.std.specs.declared.result.Result.the-variants.{Ok, Err}
 use Rattle.std.proofs.shelf.Elements.{all-has, has-append-right, all-weaker}
-use Rattle.std.proofs.shelf.Tests.{both-ways, ltb-false, le-ltb, leb-false, lt-leb, eqb-false, ne-eqb}
+use Rattle.std.proofs.shelf.Tests.{both-ways, ltb-false, le-ltb, leb-false, lt-leb, eqb-false, ne-eqb, or-parts, or-from}
 use Rattle.faults.specs.Limits.{limit}
 use Rattle.faults.specs.Numbers.{sessionNumber}
 use Rattle.faults.specs.declared.causes.Cause.{Cause}
 use Rattle.faults.specs.declared.session.SessionFault.{SessionFault}
 use Rattle.faults.specs.declared.session.SessionFault.the-variants.{NotHeld, BeyondEnd, EmptyRange, RangePastEnd, Unlawful}
 use Rattle.faults.specs.declared.session.SessionFault.the-variants.{ClipboardEmpty, PastEmpty, FutureEmpty, HoldsOut, ExtentLimit}
-use Rattle.faults.specs.declared.session.SessionFault.the-variants.{ElementLimit, FewCells, BeyondTally, OutputShort, RenderTooLong, NoSample}
-use Rattle.kinds.specs.Kinds.{Meaning}
-use Rattle.kinds.specs.Places.{elementsOf, extentOf, putAt, without}
+use Rattle.faults.specs.declared.session.SessionFault.the-variants.{ElementLimit, FewCells, BeyondTally, OutputShort, RenderTooLong}
+use Rattle.faults.specs.declared.session.SessionFault.the-variants.{NoSample, CellsOutside}
+use Rattle.kinds.specs.Kinds.{Meaning, total}
+use Rattle.kinds.specs.Places.{elementsOf, extentOf, atomsOf, putAt, taken, without}
 use Rattle.flat.specs.States.{State}
 use Rattle.flat.specs.Calls.{Call, insert, cut, copy, paste, erase, undo, redo, forget, hold, release}
 use Rattle.flat.specs.Calls.{Outcome, accepted, gave, refused, wasAccepted}
 use Rattle.flat.specs.Refusals.{faultIf, firstOf, unless, isEmpty, unlawful, notHeld, elementLimit, cellsWanted}
-use Rattle.flat.specs.Refusals.{emptyRange, clipboardEmpty, tooMany, fewCells, beyondEnd, rangePastEnd, tooLong}
+use Rattle.flat.specs.Refusals.{emptyRange, clipboardEmpty, tooMany, fewCells, outputShort, renderTooLong, renderLimit, fewestCells, mostCells}
+use Rattle.flat.specs.Refusals.{beyondEnd, rangePastEnd, tooLong}
 use Rattle.flat.specs.Refusals.{againstPut, againstRange, againstRemoval, refusals, refusal}
 use Rattle.flat.specs.Refusals.{atVersion, againstLength, againstRead, againstOverview, againstFind, againstRender}
 use Rattle.flat.specs.Steps.{Turn, calling, decided, performed, step, Accepts}
 use Rattle.flat.specs.Promises.{Smallest, QuestionSmallest, MayInsert, MayRemove, MayCopy, MayPaste}
+use Rattle.flat.specs.Promises.{AnsweredWhere, MayAsk, MayRender, QuestionAnswered, StartAccepted}
 use Rattle.flat.specs.Promises.{InsertAccepted, CutAccepted, EraseAccepted, CopyAccepted, PasteAccepted, ForgetAccepted}
 
 -- ## The first of conditions by ascending numbers
@@ -234,10 +237,14 @@ module _ {E A S : Type 0} (k : Meaning E A S) where
 
 -- ## Where no condition applies
 
-pub first-none : (o : Option SessionFault) (rest : List (Option SessionFault))
+first-none : (o : Option SessionFault) (rest : List (Option SessionFault))
     → (firstOf (o ∷ rest) ≡ None) ↔ ((o ≡ None) × (firstOf rest ≡ None))
 first-none None rest = (λ e. (refl, e), λ h. h .1)
 first-none (Some f) rest = (λ e. absurd (never-some (sym e)), λ h. absurd (never-some (sym (h .0))))
+
+-- where there is one condition alone
+pub only-none : (o : Option SessionFault) (P : Type 0) → (o ≡ None) ↔ P → (firstOf (o ∷ []) ≡ None) ↔ P
+only-none o P each = let only = first-none o [] in (λ e. each .0 (only .0 e .0), λ h. only .1 (each .1 h, refl))
 
 -- conditions that have a meaning only where the two before them do not apply
 guarded-none : (a b : Option SessionFault) (ys zs : List (Option SessionFault))
@@ -266,6 +273,18 @@ not-zero n f = (
 pub not-empty : {X : Type 0} (xs : List X) (f : SessionFault) → (faultIf (isEmpty xs) f ≡ None) ↔ (1 ≤ length xs)
 not-empty [] f = (λ e. absurd (never-some (sym e)), λ h. absurd (omega arith))
 not-empty (x ∷ xs) f = (λ e. omega arith, λ h. refl)
+
+-- a session starts with so many cells exactly where they are within the limits
+pub start-accepted : StartAccepted
+start-accepted cells =
+    let few = ltb cells fewestCells in
+    let many = ltb mostCells cells in
+    let none = if-none (few || many) CellsOutside in (
+      λ e.
+          let within = or-parts few many (none .0 e) in
+          (ltb-false cells fewestCells (within .0), ltb-false mostCells cells (within .1)),
+      λ h. none .1 (or-from few many (le-ltb cells fewestCells (h .0)) (le-ltb mostCells cells (h .1))),
+    )
 
 makes-some : {E : Type 0} (r : Result E Cause) → unlawful r ≡ None → (e : E) × (r ≡ Ok e)
 makes-some (Ok e) h = (e, refl)
@@ -340,22 +359,90 @@ module _ {E A S : Type 0} (k : Meaning E A S) where
             ),
       )
 
+  -- a range with what else is said against it
+  range-none : (es : List E) (from len : ℕ) (rest : List (Option SessionFault))
+      → (firstOf (againstRange k es from len ++ rest) ≡ None) ↔ (MayAsk k from len es × (firstOf rest ≡ None))
+  range-none es from len rest =
+      let first = first-none (emptyRange len) (rangePastEnd k es from len ∷ rest) in
+      let second = first-none (rangePastEnd k es from len) rest in
+      let some = not-zero len EmptyRange in
+      let inside = not-above (extentOf k es) (from + len) RangePastEnd in (
+        λ e.
+            let h = first .0 e in
+            let i = second .0 (h .1) in (record { some = some .0 (h .0); inside = inside .0 (i .0) }, i .1),
+        λ h. first .1 (some .1 (h .0 .some), second .1 (inside .1 (h .0 .inside), h .1)),
+      )
+
   pub copy-none : (s : State E) (from len free : ℕ)
       → (firstOf (againstRange k (s .present) from len ++ (fewCells free ∷ [])) ≡ None) ↔ MayCopy k s from len free
   copy-none s from len free =
-      let es = s .present in
-      let first = first-none (emptyRange len) (rangePastEnd k es from len ∷ fewCells free ∷ []) in
-      let second = first-none (rangePastEnd k es from len) (fewCells free ∷ []) in
+      let range = range-none (s .present) from len (fewCells free ∷ []) in
       let few = first-none (fewCells free) [] in
-      let some = not-zero len EmptyRange in
-      let inside = not-above (extentOf k es) (from + len) RangePastEnd in
       let roomy = not-above free cellsWanted FewCells in (
         λ e.
-            let h = first .0 e in
-            let i = second .0 (h .1) in
-            record { some = some .0 (h .0); inside = inside .0 (i .0); cells = roomy .0 (few .0 (i .1) .0) },
-        λ m. first .1 (some .1 (m .some), second .1 (inside .1 (m .inside), few .1 (roomy .1 (m .cells), refl))),
+            let h = range .0 e in
+            record { some = h .0 .some; inside = h .0 .inside; cells = roomy .0 (few .0 (h .1) .0) },
+        λ m. range .1 (record { some = m .some; inside = m .inside }, few .1 (roomy .1 (m .cells), refl)),
       )
+
+  render-none : (es : List E) (from len bytes : ℕ) (missing : List E → Bool)
+      → (firstOf (againstRender k from len bytes missing es) ≡ None) ↔ MayRender k from len bytes missing es
+  render-none es from len bytes missing =
+      let lacking = faultIf (missing (taken k from len es)) NoSample in
+      let range = range-none es from len (outputShort len bytes ∷ renderTooLong len ∷ lacking ∷ []) in
+      let room = first-none (outputShort len bytes) (renderTooLong len ∷ lacking ∷ []) in
+      let short = first-none (renderTooLong len) (lacking ∷ []) in
+      let sampled = first-none lacking [] in
+      let enough = not-above bytes (2 * len) OutputShort in
+      let frames = not-above renderLimit len RenderTooLong in
+      let there = if-none (missing (taken k from len es)) NoSample in (
+        λ e.
+            let h = range .0 e in
+            let i = room .0 (h .1) in
+            let j = short .0 (i .1) in
+            record {
+              some = h .0 .some;
+              inside = h .0 .inside;
+              room = enough .0 (i .0);
+              short = frames .0 (j .0);
+              sampled = there .0 (sampled .0 (j .1) .0);
+            },
+        λ m.
+            range .1 (
+              record { some = m .some; inside = m .inside },
+              room .1 (enough .1 (m .room), short .1 (frames .1 (m .short), sampled .1 (there .1 (m .sampled), refl))),
+            ),
+      )
+
+  asked : (v : Option (List E)) (against : List E → List (Option SessionFault)) (Good : List E → Type 0)
+      → ((es : List E) → (firstOf (against es) ≡ None) ↔ Good es) → AnsweredWhere k v against Good
+  asked None against Good each = (λ e. absurd (never-some (sym e)), λ h. absurd (never-some (h .1)))
+  asked (Some es) against Good each = (
+    λ e. (es, refl, each es .0 e),
+    λ h. each es .1 (subst Good (sym (same-some es (h .0) (h .1))) (h .2)),
+  )
+
+  pub question-answered : QuestionAnswered k
+  question-answered =
+      record {
+        length = λ v. asked v againstLength (λ es. Unit {0}) (λ es. (λ e. tt, λ h. refl));
+        read =
+            λ v p.
+            asked v (againstRead k p) (λ es. p < extentOf k es)
+            (λ es. only-none _ _ (not-reached (extentOf k es) p BeyondEnd));
+        overview =
+            λ v from len.
+            asked v (againstOverview k from len) (MayAsk k from len)
+            (λ es. let range = range-none es from len [] in (λ e. range .0 e .0, λ m. range .1 (m, refl)));
+        find =
+            λ tally v t.
+            asked v (againstFind k tally t) (λ es. t < tally (total k (atomsOf k es)))
+            (λ es. only-none _ _ (not-reached (tally (total k (atomsOf k es))) t BeyondTally));
+        render =
+            λ v from len bytes missing.
+            asked v (againstRender k from len bytes missing) (MayRender k from len bytes missing)
+            (λ es. render-none es from len bytes missing);
+      }
 
   pub paste-none : (s : State E) (p free : ℕ) → (refusal k s free (paste p) ≡ None) ↔ MayPaste k s p free
   paste-none s p free =

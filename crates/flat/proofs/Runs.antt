@@ -21,7 +21,7 @@ use Rattle.flat.specs.Steps.{Turn, calling, performed, step, Accepts, run, out
 use Rattle.flat.specs.Force.{Edit, inserting, removing, pasting, Log, noEdits, withEdit, withTook, withUndo, withRedo, withForget}
 use Rattle.flat.specs.Force.{makesOne, makes, noted, notedIf, logged, acceptances, undoableOnce, undoableIf, undoable}
 use Rattle.flat.specs.Promises.{Tied, RunTied, RunUndo, RunRedo}
-use Rattle.flat.proofs.Refusals.{first-none, not-empty, accepts, performed-accepted, step-cases}
+use Rattle.flat.proofs.Refusals.{only-none, not-empty, accepts, performed-accepted, step-cases}
 
 kept-length : {E : Type 0} (versions : List (List E)) → length (kept versions) ≡ min historyLimit (length versions)
 unfolding kept
@@ -197,14 +197,10 @@ module _ {E A S : Type 0} (k : Meaning E A S) where
 
   -- an undo that is not refused finds a version in the past, and a redo one in the future
   undo-none : (s : State E) (free : ℕ) → (refusal k s free undo ≡ None) ↔ (1 ≤ length (s .past))
-  undo-none s free =
-      let found = not-empty (s .past) PastEmpty in
-      let only = first-none (pastEmpty s) [] in (λ e. found .0 (only .0 e .0), λ h. only .1 (found .1 h, refl))
+  undo-none s free = only-none (pastEmpty s) (1 ≤ length (s .past)) (not-empty (s .past) PastEmpty)
 
   redo-none : (s : State E) (free : ℕ) → (refusal k s free redo ≡ None) ↔ (1 ≤ length (s .future))
-  redo-none s free =
-      let found = not-empty (s .future) FutureEmpty in
-      let only = first-none (futureEmpty s) [] in (λ e. found .0 (only .0 e .0), λ h. only .1 (found .1 h, refl))
+  redo-none s free = only-none (futureEmpty s) (1 ≤ length (s .future)) (not-empty (s .future) FutureEmpty)
 
   call-tied : (s : State E) (g : Log E) (n free place : ℕ) (c : Call) → refusal k s free c ≡ None → Tied k s g n
       → Tied k ((performed k s place c) .0) (noted k g c) (undoableOnce n c)

@@ -5,6 +5,7 @@ ghost use Rattle.flat.specs.Promises.{PutsAtoms, TakesAtoms, PasteOfCut, ReadS
 ghost use Rattle.flat.specs.Promises.{FindSome, FindOne, FindNone};
 ghost use Rattle.flat.specs.Promises.{CallSmallest, QuestionSmallest, RefusedChangesNothing};
 ghost use Rattle.flat.specs.Promises.{InsertAccepted, CutAccepted, EraseAccepted, CopyAccepted, PasteAccepted, ForgetAccepted};
+ghost use Rattle.flat.specs.Promises.{QuestionAnswered, StartAccepted};
 ghost use Rattle.flat.specs.Promises.{RunTied, RunUndo, RunRedo, RunSound};
 ghost use Rattle.flat.specs.Promises.{HoldFinds, RunPlaces, RunHeld, RunApart, RunRelease, RunHold};
 use kinds::Kind;
@@ -50,14 +51,16 @@ pub fn refusals_stand<K: Kind>(kind: &K) -> u8
     0
 }
 
-// Where each call is accepted.
+// Where each call is accepted and each question is answered.
 pub fn acceptance_stands<K: Kind>(kind: &K) -> u8
+    ensures start { λ _. ⌜ StartAccepted ⌝ }
     ensures insert { λ _. ⌜ InsertAccepted (meaning (now (kind .entry))) ⌝ }
     ensures cut { λ _. ⌜ CutAccepted (meaning (now (kind .entry))) ⌝ }
     ensures erase { λ _. ⌜ EraseAccepted (meaning (now (kind .entry))) ⌝ }
     ensures copy { λ _. ⌜ CopyAccepted (meaning (now (kind .entry))) ⌝ }
     ensures paste { λ _. ⌜ PasteAccepted (meaning (now (kind .entry))) ⌝ }
     ensures forget { λ _. ⌜ ForgetAccepted (meaning (now (kind .entry))) ⌝ }
+    ensures questions { λ _. ⌜ QuestionAnswered (meaning (now (kind .entry))) ⌝ }
 {
     0
 }
