@@ -3,10 +3,10 @@ use mathlib.Core.Path.{_≡_, refl, sym, ap, subst, _∙_}
 use mathlib.Core.Bool.{Bool, true, false}
 use mathlib.Core.Logic.{_↔_, _⊎_, inl, inr, Iff·trans}
 use mathlib.Core.List.{List, [], _∷_, _++_}
-use Prim.Native.Nat.{ℕ, zero, suc, _+_, _≤_, _<_}
+use Prim.Native.Nat.{ℕ, zero, suc, _<_}
 use native.Mathlib.Omega.{arith}
 use lib.Dec.{eqb}
-use lib.ListN.{length, getD, set, replicate, length-set, length-replicate}
+use lib.ListN.{length, getD, set, replicate, length-set}
 use lib.Seq.{getD-set-same, getD-set-other}
 use Rattle.std.specs.shelf.Lists.{All, countBy, kept-by}
 use Rattle.std.specs.Options.{isSome}
@@ -22,8 +22,9 @@ use Rattle.flat.specs.Calls.{Call, insert, cut, copy, paste, erase, undo, redo
 use Rattle.flat.specs.Calls.{Outcome, accepted, gave, refused}
 use Rattle.flat.specs.Refusals.{refusal, holdsOut, notHeld}
 use Rattle.flat.specs.Steps.{Turn, calling, performed, step, run, Possible, AllPossible}
-use Rattle.flat.specs.Promises.{HoldFinds, HeldSince, RunHeld, RunApart, RunRelease, RunHold, RunPlaces}
-use Rattle.flat.proofs.Refusals.{never-some, same-some, only-none, not-reached, accepts, step-cases}
+use Rattle.flat.specs.Promises.{HeldSince, RunHeld, RunApart, RunRelease, RunHold, RunPlaces}
+use Rattle.flat.proofs.Acceptance.{only-none, not-reached, accepts}
+use Rattle.flat.proofs.Refusals.{never-some, same-some, step-cases}
 
 -- ## Free places
 
@@ -257,7 +258,9 @@ module _ {E A S : Type 0} (k : Meaning E A S) where
   given-free : (s : State E) (t : Turn) (mark place : ℕ) → Possible k s t → (step k s t) .1 ≡ gave mark place → FreePlace s place
   given-free s t mark place possible given =
       let by = gave-by s t mark place given in
-      subst (FreePlace s) (by .1) (possible .place-free (given ∙ ap (λ (m : ℕ). gave m place) (sym (by .0)) ∙ ap (gave (s .mark)) (sym (by .1))))
+      let own : gave mark place ≡ gave (s .mark) (t .place) =
+      ap (λ (m : ℕ). gave m place) (sym (by .0)) ∙ ap (gave (s .mark)) (sym (by .1)) in
+      subst (FreePlace s) (by .1) (possible .place-free (given ∙ own))
 
   -- a place that a hold gave holds the present list
   version-given : (s : State E) (t : Turn) (mark place : ℕ) → Possible k s t → length (s .held) ≡ holdLimit
@@ -377,7 +380,8 @@ module _ {E A S : Type 0} (k : Meaning E A S) where
       let s = run k (fresh mark) (since .earlier) in
       let after = (step k s (since .turn)) .0 in
       let own : after .mark ≡ mark = step-places s (since .turn) .mark ∙ run-places mark (since .earlier) .0 in
-      let on = possible-append (since .earlier) (since .turn ∷ since .later) (fresh mark) (subst (AllPossible k (fresh mark)) (since .whole) possible) in
+      let all = subst (AllPossible k (fresh mark)) (since .whole) possible in
+      let on = possible-append (since .earlier) (since .turn ∷ since .later) (fresh mark) all in
       let here = version-given s (since .turn) mark place (on .0) (run-places mark (since .earlier) .1) (since .given) in
       ap (λ l. getD (run k (fresh mark) l .held) place None) (since .whole)
       ∙ ap (λ (r : State E). getD (r .held) place None) (run-append (since .earlier) (since .turn ∷ since .later) (fresh mark))

@@ -1,3 +1,4 @@
+pub mod Acceptance
 pub mod Finding
 pub mod Holds
 pub mod Reading

@@ -9,19 +9,19 @@ use lib.ListN.{length, getD, take, drop, length-take, length-drop, length-append
 use lib.Seq.{take-append-le, take-append-add, take-add, take-at, take-take, getD-take}
 use Rattle.std.proofs.shelf.Lists.{take-append-drop}
 use Rattle.std.specs.declared.option.Option.{Option}
-use Rattle.std.specs.declared.option.Option.the-variants.{None, Some}
-use Rattle.faults.specs.declared.session.SessionFault.{SessionFault}
+use Rattle.std.specs.declared.option.Option.the-variants.{None}
 use Rattle.faults.specs.declared.session.SessionFault.the-variants.{PastEmpty, FutureEmpty}
 use Rattle.kinds.specs.Kinds.{Meaning}
 use Rattle.kinds.specs.Places.{putAt, taken}
 use Rattle.flat.specs.States.{State, fresh, kept, historyLimit, edited, undoneTo, redoneTo, afterForget}
 use Rattle.flat.specs.Calls.{Call, insert, cut, copy, paste, erase, undo, redo, forget, hold, release, wasAccepted}
 use Rattle.flat.specs.Refusals.{refusal, pastEmpty, futureEmpty}
-use Rattle.flat.specs.Steps.{Turn, calling, performed, step, Accepts, run, outcomes}
+use Rattle.flat.specs.Steps.{Turn, calling, performed, step, run, outcomes}
 use Rattle.flat.specs.Force.{Edit, inserting, removing, pasting, Log, noEdits, withEdit, withTook, withUndo, withRedo, withForget}
 use Rattle.flat.specs.Force.{makesOne, makes, noted, notedIf, logged, acceptances, undoableOnce, undoableIf, undoable}
 use Rattle.flat.specs.Promises.{Tied, RunTied, RunUndo, RunRedo}
-use Rattle.flat.proofs.Refusals.{only-none, not-empty, accepts, performed-accepted, step-cases}
+use Rattle.flat.proofs.Acceptance.{only-none, not-empty, accepts}
+use Rattle.flat.proofs.Refusals.{performed-accepted, step-cases}
 
 kept-length : {E : Type 0} (versions : List (List E)) → length (kept versions) ≡ min historyLimit (length versions)
 unfolding kept

@@ -1,7 +1,7 @@
 -- Every list that a session keeps is within the limits, and each of its elements is lawful: each call keeps
 -- it so.
-use mathlib.Core.Path.{_≡_, refl, sym, ap, subst, _∙_}
-use mathlib.Core.List.{List, [], _∷_, _++_}
+use mathlib.Core.Path.{_≡_, sym, subst}
+use mathlib.Core.List.{List, [], _∷_}
 use Prim.Native.Nat.{ℕ, zero, suc, _+_, _≤_}
 use native.Mathlib.Omega.{arith}
 use lib.ListN.{length, set}
@@ -9,19 +9,19 @@ use Rattle.std.specs.shelf.Lists.{All}
 use Rattle.std.specs.declared.option.Option.{Option}
 use Rattle.std.specs.declared.option.Option.the-variants.{None, Some}
 use Rattle.std.specs.declared.result.Result.{Result}
-use Rattle.std.specs.declared.result.Result.the-variants.{Ok}
 use Rattle.std.proofs.shelf.Elements.{all-append, all-take}
 use Rattle.faults.specs.Limits.{limit}
 use Rattle.faults.specs.declared.causes.Cause.{Cause}
 use Rattle.kinds.specs.Kinds.{Meaning, Laws, Lawful, of-numbers}
-use Rattle.kinds.specs.Places.{elementsOf, extent, extentOf, putAt, taken, without}
+use Rattle.kinds.specs.Places.{elementsOf, extentOf, putAt, taken, without}
 use Rattle.kinds.proofs.Places.{put-lawful, taken-lawful, without-lawful, put-extent, taken-extent, without-extent, taken-fewer}
 use Rattle.flat.specs.States.{State, fresh, kept, historyLimit, edited, undoneTo, redoneTo, withClipboard, withPlace}
 use Rattle.flat.specs.Calls.{Call, insert, cut, copy, paste, erase, undo, redo, forget, hold, release, Fits32}
 use Rattle.flat.specs.Refusals.{elementLimit, refusal}
 use Rattle.flat.specs.Steps.{Turn, performed, step, run, AllPossible}
 use Rattle.flat.specs.Promises.{Sound, RunSound, heldLists, keptLists}
-use Rattle.flat.proofs.Refusals.{insert-none, remove-none, copy-none, paste-none, step-cases}
+use Rattle.flat.proofs.Acceptance.{insert-none, remove-none, copy-none, paste-none}
+use Rattle.flat.proofs.Refusals.{step-cases}
 
 kept-all : {E : Type 0} (P : List E → Type 0) (versions : List (List E)) → All P versions → All P (kept versions)
 unfolding kept

@@ -17,7 +17,8 @@ use Rattle.kinds.specs.Kinds.{Meaning, Laws, Lawful, Tallies, total}
 use Rattle.kinds.specs.Places.{extent, extentOf, atomsOf, before, after, divided, putAt, taken, without}
 use Rattle.flat.specs.States.{State, atSlip, versionOf, FreePlace, fresh, historyLimit, holdLimit}
 use Rattle.flat.specs.Calls.{Call, insert, cut, copy, paste, erase, undo, redo, forget, hold, release, gave, refused}
-use Rattle.flat.specs.Refusals.{elementLimit, cellsWanted, renderLimit, fewestCells, mostCells, cellsOutside, firstOf, holdsOut, refusals, atVersion}
+use Rattle.flat.specs.Refusals.{elementLimit, cellsWanted, renderLimit, fewestCells, mostCells}
+use Rattle.flat.specs.Refusals.{cellsOutside, firstOf, holdsOut, refusals, atVersion}
 use Rattle.flat.specs.Refusals.{againstLength, againstRead, againstOverview, againstFind, againstRender}
 use Rattle.flat.specs.Questions.{HoldsAtom, Finds, atomsIn}
 use Rattle.flat.specs.Steps.{Turn, calling, step, Accepts, run, outcomes, AllPossible}

@@ -1,4 +1,4 @@
-use mathlib.Core.Path.{_≡_, refl}
+use mathlib.Core.Path.{refl}
 use lib.Dec.{lit<, lit≤}
 use Rattle.faults.specs.declared.session.SessionFault.the-variants.{BeyondTally}
 use Rattle.kinds.specs.Places.{before, after, putAt, taken, without}

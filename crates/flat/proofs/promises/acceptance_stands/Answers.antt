@@ -1,4 +1,5 @@
-use Rattle.flat.proofs.Refusals.{insert-accepted, cut-accepted, erase-accepted, copy-accepted, paste-accepted, forget-accepted, question-answered, start-accepted}
+use Rattle.flat.proofs.Acceptance.{start-accepted, insert-accepted, cut-accepted, erase-accepted, copy-accepted, paste-accepted}
+use Rattle.flat.proofs.Acceptance.{forget-accepted, question-answered}
 use Rattle.flat.proofs.promises.acceptance_stands.Needs as need
 
 pub returns : need.returns
