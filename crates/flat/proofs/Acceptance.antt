@@ -29,10 +29,10 @@ use Rattle.flat.specs.Refusals.{faultIf, firstOf, unless, isEmpty, unlawful, e
 use Rattle.flat.specs.Refusals.{emptyRange, clipboardEmpty, tooMany, fewCells, outputShort, renderTooLong, renderLimit, fewestCells, mostCells}
 use Rattle.flat.specs.Refusals.{beyondEnd, rangePastEnd, tooLong}
 use Rattle.flat.specs.Refusals.{againstPut, againstRange, againstRemoval, refusal}
-use Rattle.flat.specs.Refusals.{againstLength, againstRead, againstOverview, againstFind, againstRender}
+use Rattle.flat.specs.Refusals.{againstLength, againstRead, againstOverview, againstFind, againstRender, lacks}
 use Rattle.flat.specs.Steps.{Turn, calling, decided, performed, Accepts}
 use Rattle.flat.specs.Promises.{MayInsert, MayRemove, MayCopy, MayPaste}
-use Rattle.flat.specs.Promises.{AnsweredWhere, MayAsk, MayRender, QuestionAnswered, StartAccepted}
+use Rattle.flat.specs.Promises.{AnsweredWhere, MayAsk, MayRender, QuestionAnswered, StartAccepted, LacksNone}
 use Rattle.flat.specs.Promises.{InsertAccepted, CutAccepted, EraseAccepted, CopyAccepted, PasteAccepted, ForgetAccepted}
 use Rattle.flat.proofs.Refusals.{never-some, same-some, performed-accepted}
 
@@ -225,6 +225,17 @@ module _ {E A S : Type 0} (k : Meaning E A S) where
               record { some = m .some; inside = m .inside },
               room .1 (enough .1 (m .room), short .1 (frames .1 (m .short), sampled .1 (there .1 (m .sampled), refl))),
             ),
+      )
+
+  pub lacks-none : LacksNone k
+  lacks-none samples [] = (λ e. tt, λ h. refl)
+  lacks-none samples (e ∷ es) =
+      let here = ltb (length samples) (k .first e + k .second e) in
+      let rest = lacks-none samples es in (
+        λ h.
+            let both = or-parts here (lacks k samples es) h in
+            (ltb-false (length samples) (k .first e + k .second e) (both .0), rest .0 (both .1)),
+        λ h. or-from here (lacks k samples es) (le-ltb (length samples) (k .first e + k .second e) (h .0)) (rest .1 (h .1)),
       )
 
   asked : (v : Option (List E)) (against : List E → List (Option SessionFault)) (Good : List E → Type 0)

@@ -4,6 +4,7 @@ use mathlib.Core.Bool.{Bool, false}
 use mathlib.Core.Logic.{_↔_}
 use mathlib.Core.List.{List, [], _∷_, _++_}
 use Prim.Native.Nat.{ℕ, _+_, _-_, _*_, _<_, _≤_}
+use lib.IntN.{ℤ}
 use lib.ListN.{length, getD, take, drop}
 use Rattle.std.specs.shelf.Lists.{All, Has}
 use Rattle.std.specs.Finite.{nth}
@@ -19,7 +20,7 @@ use Rattle.flat.specs.States.{State, atSlip, versionOf, FreePlace, fresh, hist
 use Rattle.flat.specs.Calls.{Call, insert, cut, copy, paste, erase, undo, redo, forget, hold, release, gave, refused}
 use Rattle.flat.specs.Refusals.{elementLimit, cellsWanted, renderLimit, fewestCells, mostCells}
 use Rattle.flat.specs.Refusals.{cellsOutside, firstOf, holdsOut, refusals, atVersion}
-use Rattle.flat.specs.Refusals.{againstLength, againstRead, againstOverview, againstFind, againstRender}
+use Rattle.flat.specs.Refusals.{againstLength, againstRead, againstOverview, againstFind, againstRender, lacks}
 use Rattle.flat.specs.Questions.{HoldsAtom, Finds, atomsIn}
 use Rattle.flat.specs.Steps.{Turn, calling, step, Accepts, run, outcomes, AllPossible}
 use Rattle.flat.specs.Force.{Log, noEdits, makes, logged, undoable, acceptances}
@@ -211,6 +212,11 @@ module _ {E A S : Type 0} (k : Meaning E A S) where
         → AnsweredWhere v (againstFind k tally t) (λ es. t < tally (total k (atomsOf k es)))
     pub render : (v : Option (List E)) (from len bytes : ℕ) (missing : List E → Bool)
         → AnsweredWhere v (againstRender k from len bytes missing) (MayRender from len bytes missing)
+
+  -- a reel has every sample that a range's elements need exactly where none of them ends past its last one
+  abbrev pub LacksNone : Type 0
+  LacksNone = (samples : List ℤ) (es : List E)
+      → (lacks k samples es ≡ false) ↔ All (λ e. k .first e + k .second e ≤ length samples) es
 
   -- a hold that is not refused finds a place
   abbrev pub HoldFinds : Type 0

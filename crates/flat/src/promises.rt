@@ -5,7 +5,7 @@ ghost use Rattle.flat.specs.Promises.{PutsAtoms, TakesAtoms, PasteOfCut, ReadS
 ghost use Rattle.flat.specs.Promises.{FindSome, FindOne, FindNone};
 ghost use Rattle.flat.specs.Promises.{CallSmallest, QuestionSmallest, RefusedChangesNothing};
 ghost use Rattle.flat.specs.Promises.{InsertAccepted, CutAccepted, EraseAccepted, CopyAccepted, PasteAccepted, ForgetAccepted};
-ghost use Rattle.flat.specs.Promises.{QuestionAnswered, StartAccepted};
+ghost use Rattle.flat.specs.Promises.{QuestionAnswered, LacksNone, StartAccepted};
 ghost use Rattle.flat.specs.Promises.{RunTied, RunUndo, RunRedo, RunSound};
 ghost use Rattle.flat.specs.Promises.{HoldFinds, RunPlaces, RunHeld, RunApart, RunRelease, RunHold};
 use kinds::Kind;
@@ -61,6 +61,7 @@ pub fn acceptance_stands<K: Kind>(kind: &K) -> u8
     ensures paste { λ _. ⌜ PasteAccepted (meaning (now (kind .entry))) ⌝ }
     ensures forget { λ _. ⌜ ForgetAccepted (meaning (now (kind .entry))) ⌝ }
     ensures questions { λ _. ⌜ QuestionAnswered (meaning (now (kind .entry))) ⌝ }
+    ensures sampled { λ _. ⌜ LacksNone (meaning (now (kind .entry))) ⌝ }
 {
     0
 }

@@ -1,5 +1,5 @@
 use Rattle.flat.proofs.Acceptance.{start-accepted, insert-accepted, cut-accepted, erase-accepted, copy-accepted, paste-accepted}
-use Rattle.flat.proofs.Acceptance.{forget-accepted, question-answered}
+use Rattle.flat.proofs.Acceptance.{forget-accepted, question-answered, lacks-none}
 use Rattle.flat.proofs.promises.acceptance_stands.Needs as need
 
 pub returns : need.returns
@@ -14,4 +14,5 @@ returns g c =
       paste = paste-accepted k;
       forget = forget-accepted k;
       questions = question-answered k;
+      sampled = lacks-none k;
     }
