@@ -73,9 +73,11 @@ pub record Examples : Type 0 where
   pub within-reel : answer overReel [] (insert 0 150 50) ≡ (0, 0)
   pub past-reel : answer overReel [] (insert 0 151 50) ≡ (5, 2)
   -- an element divided by an insert, a range cut out across two elements, pasted at the end, and both undone
+  pub one : numbers overReel ((after overReel (insert 0 100 50 ∷ [])) .present) ≡ (100, 50) ∷ []
   pub divided : numbers overReel ((after overReel twoInserts) .present) ≡ (100, 20) ∷ (0, 10) ∷ (120, 30) ∷ []
   pub left : numbers overReel ((after overReel thenCut) .present) ≡ (100, 15) ∷ (5, 5) ∷ (120, 30) ∷ []
   pub clipboard : numbers overReel ((after overReel thenCut) .clipboard) ≡ (115, 5) ∷ (0, 5) ∷ []
+  pub accepted : answer overReel thenCut (paste 50) ≡ (0, 0)
   pub pasted : lengthOf overReel ((after overReel thenPaste) .present) ≡ 60
   pub undone : numbers overReel ((after overReel thenUndone) .present) ≡ (100, 20) ∷ (0, 10) ∷ (120, 30) ∷ []
   -- layers
