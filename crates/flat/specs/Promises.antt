@@ -1,9 +1,10 @@
 -- What the flat sequence keeps, as statements: of places, questions, refusals, acceptance and runs.
 use mathlib.Core.Path.{_≡_}
-use mathlib.Core.Bool.{Bool}
+use mathlib.Core.Bool.{Bool, false}
 use mathlib.Core.Logic.{_↔_}
 use mathlib.Core.List.{List, [], _∷_, _++_}
-use Prim.Native.Nat.{ℕ, _+_, _-_, _<_, _≤_}
+use Prim.Native.Nat.{ℕ, _+_, _-_, _*_, _<_, _≤_}
+use lib.IntN.{ℤ}
 use lib.ListN.{length, getD, take, drop}
 use Rattle.std.specs.shelf.Lists.{All, Has}
 use Rattle.std.specs.Finite.{nth}
@@ -17,8 +18,9 @@ use Rattle.kinds.specs.Kinds.{Meaning, Laws, Lawful, Tallies, total}
 use Rattle.kinds.specs.Places.{extent, extentOf, atomsOf, before, after, divided, putAt, taken, without}
 use Rattle.flat.specs.States.{State, atSlip, versionOf, FreePlace, fresh, historyLimit, holdLimit}
 use Rattle.flat.specs.Calls.{Call, insert, cut, copy, paste, erase, undo, redo, forget, hold, release, gave, refused}
-use Rattle.flat.specs.Refusals.{elementLimit, cellsWanted, firstOf, holdsOut, refusals, atVersion}
-use Rattle.flat.specs.Refusals.{againstLength, againstRead, againstOverview, againstFind, againstRender}
+use Rattle.flat.specs.Refusals.{elementLimit, cellsWanted, renderLimit, fewestCells, mostCells}
+use Rattle.flat.specs.Refusals.{cellsOutside, firstOf, holdsOut, refusals, atVersion}
+use Rattle.flat.specs.Refusals.{againstLength, againstRead, againstOverview, againstFind, againstRender, lacks}
 use Rattle.flat.specs.Questions.{HoldsAtom, Finds, atomsIn}
 use Rattle.flat.specs.Steps.{Turn, calling, step, Accepts, run, outcomes, AllPossible}
 use Rattle.flat.specs.Force.{Log, noEdits, makes, logged, undoable, acceptances}
@@ -28,6 +30,10 @@ pub record Smallest (faults : List (Option SessionFault)) : Type 0 where
   pub applies : (f : SessionFault) → firstOf faults ≡ Some f → Has faults (Some f)
   pub least : (f g : SessionFault) → firstOf faults ≡ Some f → Has faults (Some g) → sessionNumber f ≤ sessionNumber g
   pub none : firstOf faults ≡ None → (g : SessionFault) → Has faults (Some g) → ⊥
+
+-- a session starts with cells within the limits, and with no others
+abbrev pub StartAccepted : Type 0
+StartAccepted = (cells : ℕ) → (cellsOutside cells ≡ None) ↔ ((fewestCells ≤ cells) × (cells ≤ mostCells))
 
 -- the versions at the places that are held
 abbrev pub heldLists : {E : Type 0} → List (Option (List E)) → List (List E)
@@ -180,6 +186,38 @@ module _ {E A S : Type 0} (k : Meaning E A S) where
   abbrev pub ForgetAccepted : Type 0
   ForgetAccepted = (s : State E) (free place : ℕ) → Accepts k s (calling forget free place)
 
+  -- A question is answered exactly where there is a version to put it to and of the version's list the
+  -- following holds.
+  abbrev pub AnsweredWhere : Option (List E) → (List E → List (Option SessionFault)) → (List E → Type 0) → Type 0
+  AnsweredWhere v against Good = (firstOf (atVersion v against) ≡ None) ↔ ((es : List E) × (v ≡ Some es) × Good es)
+
+  -- a range has an atom and lies within the list
+  pub record MayAsk (from len : ℕ) (es : List E) : Type 0 where
+    pub some : 1 ≤ len
+    pub inside : from + len ≤ extentOf k es
+
+  -- a range can be rendered into an output of so many bytes
+  pub record MayRender (from len bytes : ℕ) (missing : List E → Bool) (es : List E) : Type 0 where
+    pub some : 1 ≤ len
+    pub inside : from + len ≤ extentOf k es
+    pub room : 2 * len ≤ bytes
+    pub short : len ≤ renderLimit
+    pub sampled : missing (taken k from len es) ≡ false
+
+  pub record QuestionAnswered : Type 0 where
+    pub length : (v : Option (List E)) → AnsweredWhere v againstLength (λ es. Unit {0})
+    pub read : (v : Option (List E)) (p : ℕ) → AnsweredWhere v (againstRead k p) (λ es. p < extentOf k es)
+    pub overview : (v : Option (List E)) (from len : ℕ) → AnsweredWhere v (againstOverview k from len) (MayAsk from len)
+    pub find : (tally : S → ℕ) (v : Option (List E)) (t : ℕ)
+        → AnsweredWhere v (againstFind k tally t) (λ es. t < tally (total k (atomsOf k es)))
+    pub render : (v : Option (List E)) (from len bytes : ℕ) (missing : List E → Bool)
+        → AnsweredWhere v (againstRender k from len bytes missing) (MayRender from len bytes missing)
+
+  -- a reel has every sample that a range's elements need exactly where none of them ends past its last one
+  abbrev pub LacksNone : Type 0
+  LacksNone = (samples : List ℤ) (es : List E)
+      → (lacks k samples es ≡ false) ↔ All (λ e. k .first e + k .second e ≤ length samples) es
+
   -- a hold that is not refused finds a place
   abbrev pub HoldFinds : Type 0
   HoldFinds = (s : State E) → length (s .held) ≡ holdLimit → holdsOut s ≡ None → (place : ℕ) × FreePlace s place
@@ -244,6 +282,15 @@ module _ {E A S : Type 0} (k : Meaning E A S) where
   abbrev pub RunHeld : Type 0
   RunHeld = (mark : ℕ) (ts : List Turn) → AllPossible k (fresh mark) ts → (m place : ℕ) (es : List E)
       → (versionOf (stateAfter mark ts) (atSlip m place) ≡ Some es) ↔ ((m ≡ mark) × HeldSince mark ts place es)
+
+  -- Two unreleased slips never share a place: of two holds that gave it, the first one's slip was released
+  -- before the second.
+  abbrev pub RunApart : Type 0
+  RunApart = (mark : ℕ) (earlier between later : List Turn) (one other : Turn) (place : ℕ)
+      → AllPossible k (fresh mark) (earlier ++ (one ∷ (between ++ (other ∷ later))))
+      → (step k (stateAfter mark earlier) one) .1 ≡ gave mark place
+      → (step k (stateAfter mark (earlier ++ (one ∷ between))) other) .1 ≡ gave mark place
+      → All (λ t. t .call ≡ release mark place → ⊥) between → ⊥
 
   -- a slip's release is accepted where its version is held, and a hold where some place is free
   abbrev pub RunRelease : Type 0

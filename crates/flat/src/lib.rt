@@ -6,9 +6,13 @@ use faults::SessionFault;
 
 mod promises;
 
+pub use promises::acceptance_stands;
 pub use promises::finds_stand;
+pub use promises::holds_stand;
 pub use promises::places_stand;
 pub use promises::reads_stand;
+pub use promises::refusals_stand;
+pub use promises::runs_stand;
 
 // An edit or a copy wants this many cells free, whatever it then takes.
 pub const CELLS_WANTED: usize = 2048;
