@@ -3,3 +3,4 @@ pub mod Trees
 pub mod Staying
 pub mod Names
 pub mod Writes
+pub mod Arenas
