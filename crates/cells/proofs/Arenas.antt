@@ -42,6 +42,9 @@ module _ {E A S : Type 0} (k : Meaning E A S) (a : List (Cell E S)) (p : Pool) (
   pub refs-few : (i : ℕ) → refsAt a i ≤ 131070 + length rs
   refs-few i = refs-at i (nth a i) refl
 
+  pub refs-room : (i : ℕ) (c : Cell E S) → nth a i ≡ Some c → length rs ≤ 2 ^ 30 → c .refs + 1 < 2 ^ 32
+  refs-room i c e few = let h = refs-at i (Some c) e in omega arith
+
   -- roots counted alike are as good
   pub rerooted : (ys : List ℕ) → ((i : ℕ) → i < length a → occurs rs i ≡ occurs ys i) → Arena k a p ys
   rerooted ys same = record {
@@ -56,8 +59,20 @@ module _ {E A S : Type 0} (k : Meaning E A S) (a : List (Cell E S)) (p : Pool) (
   pub all-stay : (b : List (Cell E S)) → ((i : ℕ) → Live a i → Remains a b i) → AllStay a b rs
   all-stay b remains r among = remains-stays k a (arena .sound) b remains r (rooted r among)
 
+-- a cell that is owned has a reference
+pub owned-refs : {E A S : Type 0} (k : Meaning E A S) (a : List (Cell E S)) (p : Pool) (i : ℕ) (c : Cell E S) → nth a i ≡ Some c → (rs : List ℕ) → Arena k a p (i ∷ rs) → 0 < c .refs
+owned-refs k a p i c at rs arena = subst linked at (rooted k a p (i ∷ rs) arena i (let h = hit-same i in omega arith))
+
 pub stay-back : {E A S : Type 0} (k : Meaning E A S) (a b : List (Cell E S)) (q : Pool) (rs : List ℕ) → Arena k b q rs → ((i : ℕ) → Live b i → Remains b a i) → AllStay a b rs
 stay-back k a b q rs arena remained r among = stays-sym b a r (all-stay k b q rs arena a remained r among)
+
+no-new : (xs : List ℕ) (i : ℕ) → length xs ≤ 0 → Among xs i → ⊥
+no-new [] i few h = omega arith
+no-new (x ∷ xs) i few h = omega arith
+
+-- where nothing is taken, all that is in use was
+pub kept-none : {E S : Type 0} (a b : List (Cell E S)) → Takes a b 0 → (i : ℕ) → Live b i → Remains b a i
+kept-none a b t i live = ⊎-elim (λ h. absurd (no-new (t .new) i (t .few) h)) (λ r. r) (t .old i live)
 
 -- ---- the references of a cell in use change by one
 

@@ -4,3 +4,5 @@ pub mod Staying
 pub mod Names
 pub mod Writes
 pub mod Arenas
+pub mod Lost
+pub mod Debts

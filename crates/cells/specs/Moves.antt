@@ -11,7 +11,7 @@ use Rattle.faults.specs.Limits.{limit}
 use Rattle.kinds.specs.Kinds.{Meaning, Lawful, total}
 use Rattle.balance.specs.Trees.{Tree, node, count, weight, Δ}
 use Rattle.balance.specs.Ways.{span}
-use Rattle.balance.specs.Levels.{Levels, most}
+use Rattle.balance.specs.Levels.{Levels, most, deepest}
 use Rattle.cells.specs.declared.cell.Cell.{Cell}
 use Rattle.cells.specs.declared.pool.Pool.{Pool}
 use Rattle.cells.specs.Cells.{shape, countAt, tree}
@@ -76,6 +76,7 @@ module _ {E A S : Type 0} (k : Meaning E A S) where
     pub rest : List ℕ
     pub arena : Arena k a p (take top table ++ rest)
     pub size : length table ≡ 64
+    pub low : top ≤ deepest + 1
     pub tapers : Tapers a table top
 
   -- one of them was given up
@@ -83,6 +84,7 @@ module _ {E A S : Type 0} (k : Meaning E A S) where
     pub each : (rs : List ℕ) → Arena k a p (take top table ++ rs) → Arena k b q (take left after ++ rs)
     pub takes : Takes a b 0
     pub size : length after ≡ 64
+    pub low : left ≤ deepest + 1
     pub tapers : Tapers b after left
     pub falls : 2 * used b + left < 2 * used a + top
     pub more : p .free ≤ q .free

@@ -4,8 +4,10 @@ mod cell;
 mod pool;
 mod read;
 mod owning;
+mod releasing;
 
 pub use cell::Cell;
 pub use pool::Pool;
 pub use read::{cell_at, count_at, summary_at};
 pub use owning::retain;
+pub use releasing::{free, release};
