@@ -6,3 +6,6 @@ pub mod Writes
 pub mod Arenas
 pub mod Lost
 pub mod Debts
+pub mod Sums
+pub mod News
+pub mod Starts

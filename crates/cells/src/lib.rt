@@ -3,11 +3,15 @@
 mod cell;
 mod pool;
 mod read;
+mod making;
 mod owning;
 mod releasing;
+mod starting;
 
 pub use cell::Cell;
 pub use pool::Pool;
 pub use read::{cell_at, count_at, summary_at};
+pub use making::make;
 pub use owning::retain;
 pub use releasing::{free, release};
+pub use starting::start;
