@@ -17,7 +17,7 @@ use Rattle.cells.specs.declared.pool.Pool.{Pool}
 use Rattle.cells.specs.Cells.{counted, countAt, referred, refsAt, linked, Live, Good, Sound}
 use Rattle.cells.specs.Reach.{hit, occurs, Among, SameCell, Stays, AllStay, Remains, Takes}
 use Rattle.cells.specs.References.{linksIf, links, Counted, used, Chain, Arena}
-use Rattle.cells.specs.Moves.{withRefs, retainedAt, retained, Retains, owing, GivesUp}
+use Rattle.cells.specs.Moves.{withRefs, retainedAt, retained, Moved, Retains, owing, GivesUp}
 use Rattle.cells.proofs.Lists.{some-in, none-past, nth-set-same, nth-set-other}
 use Rattle.cells.proofs.Staying.{stays-sym, stays-refl, takes-none, takes-refl, remains-stays}
 use Rattle.cells.proofs.Names.{hit-same, hit-other, links-live, links-free, links-set, used-set, names-few}
@@ -125,19 +125,25 @@ module _ {E A S : Type 0} (k : Meaning E A S) (a : List (Cell E S)) (i : ℕ) (c
 module _ {E A S : Type 0} (k : Meaning E A S) (a : List (Cell E S)) (i : ℕ) where
   retains-at : (o : Option (Cell E S)) → nth a i ≡ o → linked o → Retains k a i (retainedAt a i o)
   retains-at None e live = record {
-    each = λ p rs arena. rerooted k a p rs arena (i ∷ rs) (λ j within. let h = hit-other i j (λ q. omega (arith, none-past a i e)) in omega arith);
-    stay = λ p rs arena r among. stays-refl a r;
+    each = λ p rs arena. record {
+      arena = rerooted k a p rs arena (i ∷ rs) (λ j within. let h = hit-other i j (λ q. omega (arith, none-past a i e)) in omega arith);
+      stay = λ r among. stays-refl a r;
+      takes = takes-refl a 0;
+      free = omega arith;
+    };
     here = λ p rs arena. stays-refl a i;
-    takes = takes-refl a 0;
   }
   retains-at (Some c) e live =
       let n : ℕ = c .refs + 1 in
       let remains = remains-recounted k a i c e (withRefs c n) (same-cell k a i c e n) (omega arith) in
       record {
-        each = λ p rs arena. arena-recounted k a i c e n p rs (i ∷ rs) arena live (omega arith) (let h = hit-same i in omega arith) (λ j ne. let h = hit-other i j ne in omega arith);
-        stay = λ p rs arena. all-stay k a p rs arena (set a i (withRefs c n)) remains;
+        each = λ p rs arena. record {
+          arena = arena-recounted k a i c e n p rs (i ∷ rs) arena live (omega arith) (let h = hit-same i in omega arith) (λ j ne. let h = hit-other i j ne in omega arith);
+          stay = all-stay k a p rs arena (set a i (withRefs c n)) remains;
+          takes = takes-none a (set a i (withRefs c n)) (remained-recounted k a i c e (withRefs c n) (same-back k a i c e n) live) 0;
+          free = omega arith;
+        };
         here = λ p rs arena. remains-stays k a (arena .sound) (set a i (withRefs c n)) remains i (subst linked (sym e) live);
-        takes = takes-none a (set a i (withRefs c n)) (remained-recounted k a i c e (withRefs c n) (same-back k a i c e n) live) 0;
       }
 
   pub retains : (b : List (Cell E S)) → b ≡ retained a i → Live a i → Retains k a i b

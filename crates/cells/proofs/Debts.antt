@@ -18,7 +18,7 @@ use Rattle.cells.specs.declared.pool.Pool.{Pool}
 use Rattle.cells.specs.Cells.{counted, countAt, linked, Good}
 use Rattle.cells.specs.Reach.{hit, occurs, AllStay, Takes}
 use Rattle.cells.specs.References.{used, Arena}
-use Rattle.cells.specs.Moves.{owing, GivesUp, Tapers, Owes, Pays, Releases}
+use Rattle.cells.specs.Moves.{Moved, owing, GivesUp, Tapers, Owes, Pays, Releases}
 use Rattle.cells.proofs.Lists.{some-in}
 use Rattle.cells.proofs.Staying.{occurs-append, takes-refl, takes-trans}
 use Rattle.cells.proofs.Names.{hit-other}
@@ -198,10 +198,12 @@ module _ {E A S : Type 0} (k : Meaning E A S) (a : List (Cell E S)) (p : Pool) (
         let z : top ≡ 0 = omega arith in
         let end : Arena k b q rs = subst (λ m. Arena k b q (take m t ++ rs)) z (paying .each rs arena) in
         record {
-          arena = end;
-          stay = stay-back k a b q rs end (kept-none a b (paying .takes));
-          takes = paying .takes;
-          more = paying .more;
+          moved = record {
+            arena = end;
+            stay = stay-back k a b q rs end (kept-none a b (paying .takes));
+            takes = paying .takes;
+            free = omega (arith, paying .more);
+          };
           none-lost = none-lost k b q rs end;
         }
 

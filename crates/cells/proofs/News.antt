@@ -1,5 +1,6 @@
 -- A free cell becomes one over two trees.
 use mathlib.Core.Path.{_≡_, refl, sym, ap, subst, _∙_}
+use mathlib.Core.Bool.{false}
 use mathlib.Core.List.{List, [], _∷_}
 use mathlib.Core.Logic.{_⊎_, inl, inr, ⊎-elim}
 use Prim.Native.Nat.{ℕ, zero, suc, _+_, _-_, _*_, _^_, _≤_, _<_, min}
@@ -13,11 +14,12 @@ use Rattle.faults.specs.Limits.{limit}
 use Rattle.kinds.specs.Kinds.{Meaning, Laws, IsAtom, Joinable, total}
 use Rattle.balance.specs.Trees.{Tree, node, count}
 use Rattle.cells.specs.declared.cell.Cell.{Cell}
+use Rattle.cells.specs.declared.item.Item.{Item}
 use Rattle.cells.specs.declared.pool.Pool.{Pool}
 use Rattle.cells.specs.Cells.{countAt, referred, refsAt, tree, Live, meant, sumAt, Good, Sound}
 use Rattle.cells.specs.Reach.{hit, occurs, Remains, Takes}
 use Rattle.cells.specs.References.{links, Counted, used, Chain, Arena}
-use Rattle.cells.specs.Moves.{Fits, Yields}
+use Rattle.cells.specs.Moves.{Moved, Fits, Yields}
 use Rattle.cells.proofs.Lists.{some-in, nth-set-same, nth-set-other}
 use Rattle.cells.proofs.Trees.{Known, known}
 use Rattle.cells.proofs.Staying.{count-stays, remains-stays}
@@ -60,8 +62,14 @@ counted-made a i f d rs at free one counts j within =
       (λ ne. let h = hit-other i j ne in let same = ap referred (nth-set-other a i j d ne) in omega arith)
       (cases-eq j i)
 
-module _ {E A S : Type 0} (k : Meaning E A S) (laws : Laws k) (a : List (Cell E S)) (p : Pool) (left right : ℕ) (e : E) (own : S)
-    (rs : List ℕ) (arena : Arena k a p (left ∷ right ∷ rs)) (fits : Fits k (tree a left) e own (tree a right)) where
+module _ {E A S : Type 0} (k : Meaning E A S) (laws : Laws k) (a : List (Cell E S)) (p : Pool) (left right : ℕ) (item : Item E S)
+    (rs : List ℕ) (arena : Arena k a p (left ∷ right ∷ rs)) (fits : Fits k (tree a left) item (tree a right)) where
+  abbrev e : E
+  e = item .element
+
+  abbrev own : S
+  own = item .own
+
   abbrev l : Tree E
   l = tree a left
 
@@ -158,34 +166,36 @@ module _ {E A S : Type 0} (k : Meaning E A S) (laws : Laws k) (a : List (Cell E 
         (cases-eq i (p .head));
     }
 
-    pub made : Yields k a p rs b q (p .head) (node l e r) 1
+    pub made : Yields k false a p rs b q (p .head) (node l e r) 1
     made =
         let u = used-set a (p .head) f d at in
         let len = length-set a (p .head) d in
         let z = was-free in
         record {
-          arena = record {
-            sound = sound-made k a (p .head) f at d (arena .sound) was-free good;
-            counts = counted-made a (p .head) f d rs at was-free refl (arena .counts);
-            chain = chain-popped a (p .head) d (p .free - 1) (p .free) (f .left) others (arena .chain) (omega (arith, some));
-            all = omega (arith, arena .all, some);
-            long = omega (arith, arena .long);
+          moved = record {
+            arena = record {
+              sound = sound-made k a (p .head) f at d (arena .sound) was-free good;
+              counts = counted-made a (p .head) f d rs at was-free refl (arena .counts);
+              chain = chain-popped a (p .head) d (p .free - 1) (p .free) (f .left) others (arena .chain) (omega (arith, some));
+              all = omega (arith, arena .all, some);
+              long = omega (arith, arena .long);
+            };
+            stay = λ i among. all-stay k a p (left ∷ right ∷ rs) arena b remains i (omega arith);
+            takes = taken-one;
+            free = omega (arith, some);
           };
           tree-is = tree-new;
-          stay = λ i among. all-stay k a p (left ∷ right ∷ rs) arena b remains i (omega arith);
-          takes = taken-one;
-          free = omega (arith, some);
         }
 
   -- the same of what the code computes
   pub made-by : (some : 0 < p .free) (cl cr : ℕ) (sr s sl t : S) (f : Cell E S) (b : List (Cell E S)) → cl ≡ countAt a left → cr ≡ countAt a right
       → sr ≡ sumAt k a right → (Joinable k own sr → s ≡ k .plus own sr) → sl ≡ sumAt k a left → (Joinable k sl s → t ≡ k .plus sl s) → nth a (p .head) ≡ Some f
       → b ≡ set a (p .head) (record { element = e; own = own; left = left; right = right; count = cl + 1 + cr; summary = t; refs = 1 })
-      → Yields k a p rs b (record { head = f .left; free = p .free - 1 }) (p .head) (node l e r) 1
+      → Yields k false a p rs b (record { head = f .left; free = p .free - 1 }) (p .head) (node l e r) 1
   made-by some cl cr sr s sl t f b cl-is cr-is sr-is s-is sl-is t-is at b-is =
       let s1 = s-is (joins-right sr sr-is) in
       let t1 = t-is (joins-left sl sr s sr-is s1 sl-is) in
-      subst (λ x. Yields k a p rs x (record { head = f .left; free = p .free - 1 }) (p .head) (node l e r) 1) (sym b-is)
+      subst (λ x. Yields k false a p rs x (record { head = f .left; free = p .free - 1 }) (p .head) (node l e r) 1) (sym b-is)
         (made some (cl + 1 + cr) t (omega arith) (summary-is sl sr s t sr-is s1 sl-is t1) f at)
 
   pub counts-fit : (cl cr : ℕ) → cl ≡ countAt a left → cr ≡ countAt a right → cl + 1 + cr < 2 ^ 32

@@ -1,6 +1,7 @@
 // Trees in cells. The caller lends a slice of cells; versions of a list share them, and a cell counts the links that name
 // it. What is reached from an owned root is never written; what none reaches is free, and used again.
 mod cell;
+mod item;
 mod pool;
 mod read;
 mod making;
@@ -9,6 +10,7 @@ mod releasing;
 mod starting;
 
 pub use cell::Cell;
+pub use item::Item;
 pub use pool::Pool;
 pub use read::{cell_at, count_at, summary_at};
 pub use making::make;
