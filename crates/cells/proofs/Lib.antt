@@ -9,3 +9,4 @@ pub mod Debts
 pub mod Sums
 pub mod News
 pub mod Starts
+pub mod Moving

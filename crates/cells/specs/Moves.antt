@@ -41,6 +41,10 @@ module _ {E A S : Type 0} (k : Meaning E A S) where
     pub takes : Takes a b n
     pub free : p .free ≤ q .free + n
 
+  -- so from the roots xs to the roots ys, whatever else is owned
+  abbrev pub Moves : List (Cell E S) → Pool → List ℕ → List (Cell E S) → Pool → List ℕ → ℕ → Type 0
+  Moves a p xs b q ys n = (rs : List ℕ) → Arena k a p (xs ++ rs) → Moved a p rs b q ys n
+
   -- one root more is owned
   pub record Retains (a : List (Cell E S)) (i : ℕ) (b : List (Cell E S)) : Type 0 where
     pub each : (p : Pool) (rs : List ℕ) → Arena k a p rs → Moved a p rs b p (i ∷ []) 0

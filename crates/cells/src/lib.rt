@@ -9,8 +9,8 @@ mod owning;
 mod releasing;
 mod starting;
 
-pub use cell::Cell;
-pub use item::Item;
+pub use cell::{Cell, CellClone};
+pub use item::{Item, ItemClone};
 pub use pool::Pool;
 pub use read::{cell_at, count_at, summary_at};
 pub use making::make;

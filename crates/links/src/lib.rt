@@ -1,0 +1,7 @@
+// Linking in cells: two trees and an item between them become one balanced tree, by loops with a table of cell numbers.
+// Each step is written once, for trees as they are and for their mirror images.
+mod facing;
+mod opening;
+mod parts;
+
+pub use parts::Parts;
