@@ -3,5 +3,6 @@
 mod facing;
 mod opening;
 mod parts;
+mod rotating;
 
 pub use parts::Parts;
