@@ -1,3 +1,4 @@
 pub mod Sides
 pub mod Openings
 pub mod Rotations
+pub mod Twice

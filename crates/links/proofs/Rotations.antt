@@ -4,22 +4,29 @@ use mathlib.Core.Bool.{Bool}
 use mathlib.Core.List.{List, [], _∷_, _++_}
 use Prim.Native.Nat.{ℕ, _+_, _*_, _^_, _≤_, _<_}
 use native.Mathlib.Omega.{arith}
+use lib.ListN.{length}
+use Rattle.std.specs.Finite.{nth}
+use Rattle.std.specs.declared.option.Option.{Option}
+use Rattle.std.specs.declared.option.Option.the-variants.{Some, None}
 use Rattle.kinds.specs.Kinds.{Meaning}
 use Rattle.balance.specs.Trees.{Tree, node, count, weight, Balanced}
 use Rattle.balance.specs.Links.{rotatedTwice}
+use Rattle.balance.specs.Levels.{most}
 use Rattle.cells.specs.declared.cell.Cell.{Cell}
 use Rattle.cells.specs.declared.item.Item.{Item}
 use Rattle.cells.specs.declared.pool.Pool.{Pool}
-use Rattle.cells.specs.Cells.{seen}
-use Rattle.cells.specs.Reach.{occurs}
+use Rattle.cells.specs.Cells.{counted, countAt, seen, Live, Sound}
+use Rattle.cells.specs.Reach.{occurs, Among}
 use Rattle.cells.specs.References.{Arena, Holds}
-use Rattle.cells.specs.Moves.{Moved, Moves, Fits, Yields}
+use Rattle.cells.specs.Moves.{Moved, Moves, Fits, Yields, Releases}
+use Rattle.cells.proofs.Lists.{some-in}
 use Rattle.cells.proofs.Names.{hit-same}
-use Rattle.cells.proofs.Arenas.{rerooted}
-use Rattle.cells.proofs.Moving.{moves-none, moves-then, stays-then, seen-stays}
+use Rattle.cells.proofs.Arenas.{rooted, rerooted}
+use Rattle.cells.proofs.Moving.{moves-none, moves-then, seen-stays}
 use Rattle.links.specs.declared.parts.Parts.{Parts}
 use Rattle.links.specs.Opened.{Whole, Opens}
 use Rattle.links.specs.Sitting.{Sits}
+use Rattle.links.proofs.Sides.{seen-known}
 
 module _ {E A S : Type 0} (k : Meaning E A S) where
   pub sits-left : (l : Tree E) (e : E) (r : Tree E) → Sits k (node l e r) → Sits k l
