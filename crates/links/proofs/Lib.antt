@@ -2,3 +2,4 @@ pub mod Sides
 pub mod Openings
 pub mod Rotations
 pub mod Twice
+pub mod Turns

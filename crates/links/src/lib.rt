@@ -3,6 +3,7 @@
 mod facing;
 mod opening;
 mod parts;
+mod rebalancing;
 mod rotating;
 
 pub use parts::Parts;
