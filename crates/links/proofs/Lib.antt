@@ -3,3 +3,4 @@ pub mod Openings
 pub mod Rotations
 pub mod Twice
 pub mod Turns
+pub mod Raises
