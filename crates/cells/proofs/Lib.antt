@@ -1,0 +1,12 @@
+pub mod Lists
+pub mod Trees
+pub mod Staying
+pub mod Names
+pub mod Writes
+pub mod Arenas
+pub mod Lost
+pub mod Debts
+pub mod Sums
+pub mod News
+pub mod Starts
+pub mod Moving

@@ -1,0 +1,6 @@
+pub mod Sides
+pub mod Openings
+pub mod Rotations
+pub mod Twice
+pub mod Turns
+pub mod Raises
