@@ -1,0 +1,8 @@
+// Walks over trees in cells: to a place, to a tally, over a range. They read the lent cells and change none. A walk is a
+// loop; what it passed stands in tables of cell numbers.
+mod answers;
+mod look;
+mod places;
+
+pub use answers::{Found, Reading};
+pub use places::{descend, read};
