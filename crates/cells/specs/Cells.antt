@@ -76,6 +76,14 @@ module _ {E A S : Type 0} (k : Meaning E A S) where
   abbrev pub meant : Tree E → List A
   meant t = joined (k .atoms) (elements t)
 
+  -- the summary that a link tells
+  abbrev pub summed : Option (Cell E S) → S
+  summed None = k .none
+  summed (Some c) = c .summary
+
+  abbrev pub sumAt : List (Cell E S) → ℕ → S
+  sumAt cells i = summed (nth cells i)
+
   -- What a cell in use tells is true: of its children, of its element, and of the tree under it.
   pub record Good (cells : List (Cell E S)) (i : ℕ) (c : Cell E S) : Type 0 where
     pub left-live : Live cells (c .left)

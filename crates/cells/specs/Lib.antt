@@ -1,3 +1,4 @@
 pub mod Cells
 pub mod Reach
 pub mod References
+pub mod Moves

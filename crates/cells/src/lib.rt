@@ -2,6 +2,10 @@
 // it. What is reached from an owned root is never written; what none reaches is free, and used again.
 mod cell;
 mod pool;
+mod read;
+mod owning;
 
 pub use cell::Cell;
 pub use pool::Pool;
+pub use read::{cell_at, count_at, summary_at};
+pub use owning::retain;
