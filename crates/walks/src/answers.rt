@@ -18,3 +18,10 @@ pub struct Reading {
     pub offset: u32,
     pub count: u32,
 }
+
+// The place that a tally was found at, and how many cells lead there.
+#[derive(Clone, Copy)]
+pub struct Located {
+    pub place: u32,
+    pub count: u32,
+}

@@ -3,6 +3,8 @@
 mod answers;
 mod look;
 mod places;
+mod tallies;
 
-pub use answers::{Found, Reading};
+pub use answers::{Found, Located, Reading};
 pub use places::{descend, read};
+pub use tallies::find;

@@ -6,8 +6,8 @@ ghost use Rattle.cells.specs.Cells.{shape, tree, countAt, Live, Sound};
 ghost use Rattle.walks.specs.Holding.{Reads};
 ghost use Rattle.walks.specs.Walks.{Walked};
 use crate::answers::{Found, Reading};
-use crate::look::{cell_at, width_at};
-use cells::Cell;
+use crate::look::width_at;
+use cells::{cell_at, Cell};
 use kinds::Kind;
 
 // The cell that holds the atom `place` of the tree under `root`. The cells that the walk leaves to their left child are
