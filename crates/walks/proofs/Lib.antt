@@ -3,5 +3,7 @@ pub mod Tables
 pub mod Descent
 pub mod Holding
 pub mod Sums
+pub mod Stretches
+pub mod Summing
 pub mod Halving
 pub mod Seeking

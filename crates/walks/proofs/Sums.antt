@@ -4,6 +4,7 @@ use mathlib.Core.List.{List, [], _∷_, _++_}
 use Prim.Native.Nat.{ℕ, _+_, _≤_, _<_}
 use native.Mathlib.Omega.{arith}
 use lib.ListN.{length, take, drop, length-append, take-append-drop}
+use lib.Seq.{take-all}
 use Rattle.std.specs.Finite.{nth}
 use Rattle.std.specs.shelf.Lists.{All}
 use Rattle.std.specs.declared.option.Option.{Option}
@@ -84,3 +85,21 @@ module _ {E A S : Type 0} (k : Meaning E A S) where
         → s ≡ total k (take m (drop d (k .atoms e)))
     part-sum e part d m s lawful within is asked =
         asked (subst (Lawful k) (sym is) (part-lawful k laws e d m lawful within)) ∙ ap (λ x. total k (k .atoms x)) is ∙ ap (total k) (laws .part-atoms e d m lawful within)
+
+    -- the summary that is asked of two parts, joined
+    pub join-sum : (xs ys : List A) (s t r : S) → Few k (xs ++ ys) → s ≡ total k xs → t ≡ total k ys → (Joinable k s t → r ≡ k .plus s t) → r ≡ total k (xs ++ ys)
+    join-sum xs ys s t r f s-is t-is asked =
+        let both : Joinable k s t = record {
+          left = xs;
+          right = ys;
+          sums-left = record { atomic = all-left (IsAtom k) xs ys (f .atomic); summed = s-is };
+          sums-right = record { atomic = all-right (IsAtom k) xs ys (f .atomic); summed = t-is };
+          few = omega (arith, f .few, length-append xs ys);
+        } in
+        asked both ∙ ap (λ x. k .plus x t) s-is ∙ ap (k .plus (total k xs)) t-is ∙ sym (parts-total xs ys f)
+
+    -- the part that is the whole element
+    pub whole-sum : (e : E) (d m : ℕ) (s : S) → s ≡ total k (k .atoms e) → Within k e d m → m ≡ length (k .atoms e) → s ≡ total k (take m (drop d (k .atoms e)))
+    whole-sum e d m s s-is within all =
+        let first : d ≡ 0 = omega (arith, within .inside) in
+        s-is ∙ ap (total k) (sym (ap (λ (n : ℕ). take m (drop n (k .atoms e))) first ∙ take-all m (k .atoms e) (omega arith)))

@@ -25,3 +25,11 @@ pub struct Located {
     pub place: u32,
     pub count: u32,
 }
+
+// The cell at which a range parts, some of it at the cell's own element or on both sides; and where in the tree under the
+// cell the range begins.
+#[derive(Clone, Copy)]
+pub struct Fork {
+    pub cell: u32,
+    pub from: u32,
+}

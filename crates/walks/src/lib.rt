@@ -3,8 +3,10 @@
 mod answers;
 mod look;
 mod places;
+mod ranges;
 mod tallies;
 
 pub use answers::{Found, Located, Reading};
 pub use places::{descend, read};
+pub use ranges::overview;
 pub use tallies::find;
