@@ -1,0 +1,9 @@
+pub mod Nodes
+pub mod Tables
+pub mod Descent
+pub mod Holding
+pub mod Sums
+pub mod Stretches
+pub mod Summing
+pub mod Halving
+pub mod Seeking

@@ -1,0 +1,4 @@
+pub mod Walks
+pub mod Holding
+pub mod Tallying
+pub mod Ranges
