@@ -4,3 +4,4 @@ pub mod Rotations
 pub mod Twice
 pub mod Turns
 pub mod Raises
+pub mod Climbs
