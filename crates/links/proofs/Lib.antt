@@ -5,3 +5,4 @@ pub mod Twice
 pub mod Turns
 pub mod Raises
 pub mod Climbs
+pub mod Sinks

@@ -7,5 +7,6 @@ mod opening;
 mod parts;
 mod rebalancing;
 mod rotating;
+mod sinking;
 
 pub use parts::Parts;
