@@ -51,7 +51,7 @@ module _ {E S : Type 0} (flip : Bool) (a : List (Cell E S)) (top : ℕ) where
   unfolding climbed
   climbed-more n u = refl
 
-  climbed-none : (u : Tree E) → climbed flip a top 0 u ≡ u
+  pub climbed-none : (u : Tree E) → climbed flip a top 0 u ≡ u
   unfolding climbed
   climbed-none u = refl
 

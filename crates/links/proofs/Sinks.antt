@@ -26,7 +26,7 @@ use Rattle.links.specs.Climbing.{descent, Tabled, Sunk}
 use Rattle.links.proofs.Sides.{seen-known, seen-opened, near-live}
 use Rattle.links.proofs.Twice.{seen-inside}
 
-near-child : {E S : Type 0} (flip : Bool) (i : ℕ) (c : Cell E S) → near flip c ≡ child flip i (Some c)
+pub near-child : {E S : Type 0} (flip : Bool) (i : ℕ) (c : Cell E S) → near flip c ≡ child flip i (Some c)
 near-child false i c = refl
 near-child true i c = refl
 

@@ -3,6 +3,7 @@
 mod climbing;
 mod facing;
 mod foot;
+mod hanging;
 mod opening;
 mod parts;
 mod rebalancing;
