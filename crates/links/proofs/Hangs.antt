@@ -91,9 +91,6 @@ module _ {E A S : Type 0} (k : Meaning E A S) (flip : Bool) (a : List (Cell E S)
     pub foot-live : Live a f
     foot-live = subst (Live a) (sym (sunk .foot-is)) (descent-live k flip a (holds .arena .sound) y y-live L e x-balanced linkable light table foot sunk n)
 
-    bottom : Tree E
-    bottom = seen flip a (descent flip a y n)
-
     sits-a : Sits k (node L e (seen flip a f))
     sits-a = subst (λ t. Sits k (node L e t)) (sym (foot-tree k flip a (holds .arena .sound) y y-live L e x-balanced linkable light table foot sunk))
         (foot-sits k flip a (holds .arena .sound) y y-live L e x-balanced linkable light table foot sunk)

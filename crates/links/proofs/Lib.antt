@@ -8,3 +8,4 @@ pub mod Climbs
 pub mod Sinks
 pub mod Levels
 pub mod Hangs
+pub mod Wholes
