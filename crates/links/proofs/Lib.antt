@@ -4,3 +4,8 @@ pub mod Rotations
 pub mod Twice
 pub mod Turns
 pub mod Raises
+pub mod Climbs
+pub mod Sinks
+pub mod Levels
+pub mod Hangs
+pub mod Wholes

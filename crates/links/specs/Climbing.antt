@@ -12,8 +12,9 @@ use Rattle.balance.specs.Levels.{deepest}
 use Rattle.cells.specs.declared.cell.Cell.{Cell}
 use Rattle.cells.specs.declared.pool.Pool.{Pool}
 use Rattle.cells.specs.Cells.{seen, Live}
-use Rattle.cells.specs.Reach.{child, Reached}
+use Rattle.cells.specs.Reach.{child, Reached, Stays}
 use Rattle.cells.specs.References.{Arena}
+use Rattle.cells.specs.Moves.{Moves}
 use Rattle.links.specs.declared.foot.Foot.{Foot}
 use Rattle.links.specs.Sitting.{Sits}
 
@@ -52,6 +53,12 @@ pub record Above {E A S : Type 0} (k : Meaning E A S) (cells : List (Cell E S)) 
   pub arena : Arena k cells pool (low ∷ rest)
   pub reached : Reached cells rest i
   pub few : length rest ≤ n
+
+-- The root low has become r, whose tree is t, beside the root top, which is owned still. At most n cells are taken.
+pub record Raises {E A S : Type 0} (k : Meaning E A S) (flip : Bool) (a : List (Cell E S)) (p : Pool) (low top : ℕ) (b : List (Cell E S)) (q : Pool) (r : ℕ) (t : Tree E) (n : ℕ) : Type 0 where
+  pub each : Moves k a p (low ∷ top ∷ []) b q (r ∷ top ∷ []) n
+  pub stays : Stays a b top
+  pub tree-is : seen flip b r ≡ t
 
 -- A tree went down the near side of another while that outweighed it. The table has what it passed, and the foot is the
 -- first that it can stand beside.

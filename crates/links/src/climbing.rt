@@ -8,7 +8,7 @@ ghost use Rattle.cells.specs.Cells.{seen};
 ghost use Rattle.cells.specs.References.{Arena, Holds};
 ghost use Rattle.cells.specs.Moves.{Yields};
 ghost use Rattle.links.specs.Sitting.{Sits};
-ghost use Rattle.links.specs.Climbing.{raised, climbed, Climbs, Tabled, Above};
+ghost use Rattle.links.specs.Climbing.{raised, climbed, Climbs, Tabled, Above, Raises};
 use cells::{Cell, Item, Pool, cell_at, retain};
 use crate::facing::far_of;
 use crate::rebalancing::rebalance;
@@ -28,4 +28,31 @@ pub fn raise<K: Kind>(kind: &K, cells: &mut [Cell<K::Element, K::Summary>], pool
     let far = far_of(flip, c);
     retain(kind, cells, far);
     rebalance(kind, cells, pool, flip, low, Item { element: c.element, own: c.own }, far)
+}
+
+// Up from `low` through the cells of the table, the last first, to the top of the tree of `right`.
+pub fn climb<K: Kind>(
+    kind: &K,
+    cells: &mut [Cell<K::Element, K::Summary>],
+    pool: &mut Pool,
+    flip: bool,
+    low: u32,
+    right: u32,
+    table: &[u32; 64],
+    top: usize,
+) -> u32
+    requires holds { ⌜ Holds (meaning (now kind)) (now cells) (now pool) (low ∷ right ∷ []) (2 ^ 25) ⌝ }
+    requires tabled { ⌜ Tabled flip (now cells) right (now table) top ⌝ }
+    requires climbs { ⌜ Climbs (meaning (now kind)) flip (now cells) right top (seen flip (now cells) low) ⌝ }
+    requires some { ⌜ 3 * top ≤ now pool .free ⌝ }
+    ensures { λ r. ⌜ Raises (meaning (now (kind .entry))) flip (now (cells .entry)) (now (pool .entry)) low right (now (cells .exit)) (now (pool .exit)) r
+        (climbed flip (now (cells .entry)) right top (seen flip (now (cells .entry)) low)) (3 * top) ⌝ }
+{
+    let mut x = low;
+    let mut n = top;
+    while n > 0 {
+        n -= 1;
+        x = raise(kind, cells, pool, flip, x, table[n]);
+    }
+    x
 }
