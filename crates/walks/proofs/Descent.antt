@@ -18,8 +18,10 @@ use Rattle.balance.proofs.Loops.{walked-last, walked-depth, passedLeft-append, 
 use Rattle.cells.specs.declared.cell.Cell.{Cell}
 use Rattle.cells.specs.Cells.{shape, countAt, tree, seen, Live, Good, Sound}
 use Rattle.cells.proofs.Trees.{known}
+use Rattle.walks.specs.Nesting.{Nested}
 use Rattle.walks.specs.Walks.{Table, Leads, Walked}
-use Rattle.walks.proofs.Nodes.{inside-named, node-live, node-good, node-is, node-span}
+use Rattle.walks.proofs.Nodes.{inside-named, node-live, node-good, node-is, node-span, node-count}
+use Rattle.walks.proofs.Nestings.{nested-push, nested-less}
 use Rattle.walks.proofs.Tables.{table-length, table-last}
 
 -- the first n places of a table of 64 are filled
@@ -38,6 +40,7 @@ pub record Descent {E A S : Type 0} (k : Meaning E A S) (cells : List (Cell E S)
   pub is : way (shape k) (tree cells root) p ≡ walked steps (way (shape k) (tree cells cell) at)
   pub to-left : Table false cells (take l lefts) (passedLeft steps)
   pub to-right : Table true cells (take r rights) (passedRight steps)
+  pub nested : Nested cells (countAt cells root + 1) (take l lefts) (countAt cells cell + 1)
   pub left-filled : Filled lefts l
   pub right-filled : Filled rights r
 
@@ -63,6 +66,7 @@ module _ {E A S : Type 0} (k : Meaning E A S) (cells : List (Cell E S)) (sound :
     is = refl;
     to-left = tt;
     to-right = tt;
+    nested = omega arith;
     left-filled = record { long = long; fits = omega arith };
     right-filled = record { long = long′; fits = omega arith };
   }
@@ -109,6 +113,11 @@ module _ {E A S : Type 0} (k : Meaning E A S) (cells : List (Cell E S)) (sound :
             (table-last false cells (take l lefts) (passedLeft (d .steps)) cell (c .element, R) (d .to-left)
             (record { cell = c; at = e; live = node-live k cells sound cell c e (d .live); is = refl }));
         to-right = rw (passedRight-append (d .steps) (toLeft (c .element) R ∷ []), append-nil (passedRight (d .steps))) (d .to-right);
+        nested =
+            let room : l < length lefts = omega (arith, d .left-filled .long) in
+            let filled : take (l + 1) (set lefts l cell) ≡ take l lefts ++ (cell ∷ []) = rw add-one (take-suc-set lefts l cell room) in
+            subst (λ is. Nested cells (countAt cells root + 1) is (countAt cells (c .left) + 1)) (sym filled)
+            (nested-push cells (countAt cells root + 1) (take l lefts) (countAt cells cell + 1) cell c (d .nested) e (node-live k cells sound cell c e (d .live)) (omega arith));
         left-filled = filled-more lefts l cell (d .left-filled) (omega arith);
         right-filled = d .right-filled;
       }
@@ -128,6 +137,7 @@ module _ {E A S : Type 0} (k : Meaning E A S) (cells : List (Cell E S)) (sound :
             rw (add-one, take-suc-set rights r cell room, passedRight-append (d .steps) (toRight L (c .element) ∷ []))
             (table-last true cells (take r rights) (passedRight (d .steps)) cell (c .element, seen true cells (c .left)) (d .to-right)
             (record { cell = c; at = e; live = node-live k cells sound cell c e (d .live); is = refl }));
+        nested = nested-less cells (countAt cells root + 1) (take l lefts) (countAt cells cell + 1) (countAt cells (c .right) + 1) (d .nested) (omega (arith, node-count k cells sound cell c e (d .live)));
         left-filled = d .left-filled;
         right-filled = filled-more rights r cell (d .right-filled) (omega arith);
       }
@@ -147,5 +157,6 @@ module _ {E A S : Type 0} (k : Meaning E A S) (cells : List (Cell E S)) (sound :
             inside = low;
             to-left = d .to-left;
             to-right = d .to-right;
+            nested = d .nested;
             leads = leads-by root p (l + r + 1) live few depth-is;
           }

@@ -1,9 +1,11 @@
 pub mod Nodes
+pub mod Nestings
 pub mod Tables
 pub mod Descent
 pub mod Holding
 pub mod Sums
 pub mod Stretches
 pub mod Summing
+pub mod Cursors
 pub mod Halving
 pub mod Seeking
