@@ -13,6 +13,7 @@ use lib.Seq.{take-suc-set}
 use Rattle.std.proofs.shelf.Lists.{take-more}
 use Rattle.std.proofs.shelf.Tests.{cases-eq}
 use Rattle.std.specs.Finite.{nth}
+use Rattle.std.specs.shelf.Lists.{joined}
 use Rattle.std.specs.declared.option.Option.the-variants.{Some}
 use Rattle.kinds.specs.Kinds.{Meaning, Laws, Lawful, Within}
 use Rattle.kinds.proofs.Totals.{part-lawful, part-extent}
@@ -38,6 +39,7 @@ use Rattle.walks.specs.Nesting.{Nested, fromOwn, pending}
 use Rattle.walks.specs.Walks.{Passed, Table, Walked}
 use Rattle.walks.specs.Spines.{Spine}
 use Rattle.walks.specs.Cursors.{Behind, Begun, waiting, ahead, Ready, Begins, Gave, Ended}
+use Rattle.walks.proofs.Atoms.{atoms-between, tree-lawful}
 use Rattle.walks.proofs.Nestings.{nested-push, nested-less, nested-wider, nested-pop, nested-last, pending-push, pending-begun}
 
 -- ---- within an element
@@ -138,16 +140,18 @@ module _ {E A S : Type 0} (k : Meaning E A S) (cells : List (Cell E S)) (root p 
         span-extents (shape k) (tree cells (w .cell .right)),
       )
 
-  pub walked-begins : (len : ℕ) → length lefts ≡ 64 → countAt cells root ≤ most → p + len ≤ span (shape k) (tree cells root)
+  pub walked-begins : Laws k → Sound k cells → Live cells root → (len : ℕ) → length lefts ≡ 64 → countAt cells root ≤ most → p + len ≤ span (shape k) (tree cells root)
       → Begins k cells root p len (record { table = set lefts (r .lefts) (r .cell); depth = r .lefts + 1; offset = r .offset; left = len })
   unfolding onFrom
-  walked-begins len long few within =
+  walked-begins laws sound live len long few within =
       let room : r .lefts < length lefts = omega (arith, w .leads .short) in
       let table : List ℕ = set lefts (r .lefts) (r .cell) in
       let filled : take (r .lefts + 1) table ≡ take (r .lefts) lefts ++ (r .cell ∷ []) = rw add-one (take-suc-set lefts (r .lefts) (r .cell) room) in
       let waits : pending cells (take (r .lefts + 1) table) ≡ w .cell .element ∷ after =
-          ap (pending cells) filled ∙ pending-push cells (take (r .lefts) lefts) (r .cell) ∙ ap (λ o. fromOwn cells o ++ pending cells (take (r .lefts) lefts)) (w .at)
-          ∙ ap (λ l. (w .cell .element ∷ elements (tree cells (w .cell .right))) ++ l) (pending-table cells (take (r .lefts) lefts) (passedLeft (w .steps)) (w .to-left)) in
+      ap (pending cells) filled ∙ pending-push cells (take (r .lefts) lefts) (r .cell) ∙ ap (λ o. fromOwn cells o ++ pending cells (take (r .lefts) lefts)) (w .at)
+      ∙ ap (λ l. (w .cell .element ∷ elements (tree cells (w .cell .right))) ++ l) (pending-table cells (take (r .lefts) lefts) (passedLeft (w .steps)) (w .to-left)) in
+      let gives = ap (λ l. front (shape k) len (back (shape k) (r .offset) l)) waits
+      ∙ ap (front (shape k) len) (back-in (shape k) (w .cell .element) after (r .offset) (w .inside) ∙ sym back-is) in
       record {
         ready = record {
           long = length-set lefts (r .lefts) (r .cell) ∙ long;
@@ -160,7 +164,8 @@ module _ {E A S : Type 0} (k : Meaning E A S) (cells : List (Cell E S)) (root p 
           begun = subst (Begun (shape k) (r .offset)) (sym waits) (w .inside);
           within = omega (arith, after-wide, ap (extents (shape k)) waits);
         };
-        gives = ap (λ l. front (shape k) len (back (shape k) (r .offset) l)) waits ∙ ap (front (shape k) len) (back-in (shape k) (w .cell .element) after (r .offset) (w .inside) ∙ sym back-is);
+        gives = gives;
+        atoms = ap (joined (k .atoms)) gives ∙ atoms-between k laws (elements (tree cells root)) p len (tree-lawful k cells sound root live);
         all = refl;
       }
 

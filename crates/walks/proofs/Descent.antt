@@ -50,11 +50,9 @@ module _ {E A S : Type 0} (k : Meaning E A S) (cells : List (Cell E S)) (sound :
   leads-by root p c live few is =
       let root-known = known k cells sound root live in
       let deep = way-deep (shape k) (tree cells root) p (root-known .balanced) in
-      let w : ℕ = countAt cells root + 1 in
-      let same : count (tree cells root) + 1 ≡ w = omega (arith, root-known .counts) in
       record {
         counted = sym is;
-        deep = subst (λ (d : ℕ). 4 ^ d ≤ 3 ^ d * w) is (subst (λ (v : ℕ). 4 ^ depth (way (shape k) (tree cells root) p) ≤ 3 ^ depth (way (shape k) (tree cells root) p) * v) same deep);
+        deep = subst (λ (d : ℕ). 4 ^ d ≤ 3 ^ d * (count (tree cells root) + 1)) is deep;
         short = omega (arith, is, way-shallow (shape k) (tree cells root) p (root-known .balanced) (omega (arith, root-known .counts)));
       }
 

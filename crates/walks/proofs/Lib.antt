@@ -6,6 +6,7 @@ pub mod Holding
 pub mod Sums
 pub mod Stretches
 pub mod Summing
+pub mod Atoms
 pub mod Cursors
 pub mod Halving
 pub mod Seeking

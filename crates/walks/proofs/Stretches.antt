@@ -78,7 +78,7 @@ module _ {A : Type 0} where
         let own-left : length (drop skipped own) ≡ length own - skipped = length-drop skipped own in
         let left-left : length (drop at left) ≡ length left - at = length-drop at left in
         let d : drop (at - length left) (own ++ right) ≡ drop skipped own ++ right =
-            ap (λ (n : ℕ). drop n (own ++ right)) (sym skipped-is) ∙ drop-append-le skipped own right (omega arith) in
+        ap (λ (n : ℕ). drop n (own ++ right)) (sym skipped-is) ∙ drop-append-le skipped own right (omega arith) in
         let n : len - length (drop at left) ≡ rest = omega arith in
         let whole : take len (drop at left) ≡ drop at left = take-all len (drop at left) (omega arith) in
         let t : min rest (length (drop skipped own)) ≡ taken = omega arith in

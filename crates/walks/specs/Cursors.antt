@@ -2,14 +2,15 @@
 use mathlib.Core.Path.{_≡_}
 use mathlib.Core.List.{List, [], _∷_}
 use Prim.Native.Nat.{ℕ, _+_, _-_, _≤_, _<_}
-use lib.ListN.{length, take}
+use lib.ListN.{length, take, drop}
+use Rattle.std.specs.shelf.Lists.{joined}
 use Rattle.kinds.specs.Kinds.{Meaning, Lawful}
 use Rattle.balance.specs.Trees.{elements}
 use Rattle.balance.specs.Levels.{most}
 use Rattle.balance.specs.Lists.{Shape, extents, front, back, between}
 use Rattle.balance.specs.Edits.{onFrom}
 use Rattle.cells.specs.declared.cell.Cell.{Cell}
-use Rattle.cells.specs.Cells.{shape, tree}
+use Rattle.cells.specs.Cells.{shape, tree, meant}
 use Rattle.walks.specs.declared.cursor.Cursor.{Cursor}
 use Rattle.walks.specs.Nesting.{Nested, pending}
 
@@ -42,10 +43,11 @@ pub record Ready {E A S : Type 0} (k : Meaning E A S) (cells : List (Cell E S)) 
   pub begun : Begun (shape k) (c .offset) (waiting cells c)
   pub within : c .offset + c .left ≤ extents (shape k) (waiting cells c)
 
--- a cursor at the start of a range: it will give the elements between its ends
+-- a cursor at the start of a range: it will give the elements between its ends, which mean the atoms of the range
 pub record Begins {E A S : Type 0} (k : Meaning E A S) (cells : List (Cell E S)) (root from len : ℕ) (c : Cursor) : Type 0 where
   pub ready : Ready k cells c
   pub gives : ahead k cells c ≡ between (shape k) (elements (tree cells root)) from len
+  pub atoms : joined (k .atoms) (ahead k cells c) ≡ take len (drop from (meant k (tree cells root)))
   pub all : c .left ≡ len
 
 -- a cursor gave e, and will give what it would have given behind e

@@ -7,7 +7,7 @@ use lib.ListN.{length, take}
 use Rattle.std.specs.Finite.{nth}
 use Rattle.std.specs.declared.option.Option.the-variants.{Some}
 use Rattle.kinds.specs.Kinds.{Meaning}
-use Rattle.balance.specs.Trees.{Tree}
+use Rattle.balance.specs.Trees.{Tree, count}
 use Rattle.balance.specs.Levels.{deepest}
 use Rattle.balance.specs.Ways.{Way, here, depth, Step, walked, passedLeft, passedRight, way}
 use Rattle.cells.specs.declared.cell.Cell.{Cell}
@@ -33,7 +33,7 @@ Table flip cells (i ∷ is) (s ∷ ss) = Passed flip cells i s × Table flip cel
 -- so balanced that c is at most the logarithm of n + 1 to the base 4/3.
 pub record Leads {E A S : Type 0} (k : Meaning E A S) (cells : List (Cell E S)) (root p c : ℕ) : Type 0 where
   pub counted : c ≡ depth (way (shape k) (tree cells root) p)
-  pub deep : 4 ^ c ≤ 3 ^ c * (countAt cells root + 1)
+  pub deep : 4 ^ c ≤ 3 ^ c * (count (tree cells root) + 1)
   pub short : c ≤ deepest
 
 -- The walk to the place p ended at a cell: the way to p ends there, and the tables have what it passed. The cells that it

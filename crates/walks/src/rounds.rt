@@ -13,11 +13,19 @@ ghost use Rattle.walks.specs.Nesting.{Nested};
 ghost use Rattle.walks.specs.Spines.{Spine};
 use crate::cursor::Cursor;
 use crate::places::descend;
-use cells::{cell_at, count_at, Cell};
+use cells::Cell;
+use cells::cell_at;
+use cells::count_at;
 use kinds::Kind;
 
 // Puts a cell, its left child, that one's left child and so on into the table, and tells how far it is filled then.
-fn go_down<K: Kind>(kind: &K, cells: &[Cell<K::Element, K::Summary>], table: &mut [u32; 64], depth: usize, link: u32) -> usize
+fn go_down<K: Kind>(
+    kind: &K,
+    cells: &[Cell<K::Element, K::Summary>],
+    table: &mut [u32; 64],
+    depth: usize,
+    link: u32,
+) -> usize
     requires sound { ⌜ Sound (meaning (now kind)) (now cells) ⌝ }
     requires live { ⌜ Live (now cells) link ⌝ }
     requires fits { ⌜ depth ≤ 64 ⌝ }
@@ -48,7 +56,13 @@ fn from_offset<K: Kind>(kind: &K, element: K::Element, d: u32) -> K::Element
 }
 
 // A cursor over the `len` atoms from the place `from` on of the tree under `root`.
-pub fn begin<K: Kind>(kind: &K, cells: &[Cell<K::Element, K::Summary>], root: u32, from: u32, len: u32) -> Cursor
+pub fn begin<K: Kind>(
+    kind: &K,
+    cells: &[Cell<K::Element, K::Summary>],
+    root: u32,
+    from: u32,
+    len: u32,
+) -> Cursor
     requires sound { ⌜ Sound (meaning (now kind)) (now cells) ⌝ }
     requires live { ⌜ Live (now cells) root ⌝ }
     requires some { ⌜ 1 ≤ len ⌝ }
@@ -60,11 +74,20 @@ pub fn begin<K: Kind>(kind: &K, cells: &[Cell<K::Element, K::Summary>], root: u3
     let mut rights = [0; 64];
     let found = descend(kind, cells, root, from, &mut table, &mut rights);
     table[found.lefts] = found.cell;
-    Cursor { table, depth: found.lefts + 1, offset: found.offset, left: len }
+    Cursor {
+        table,
+        depth: found.lefts + 1,
+        offset: found.offset,
+        left: len,
+    }
 }
 
 // The next element of the range, and at its ends what the range has of one.
-pub fn advance<K: Kind>(kind: &K, cells: &[Cell<K::Element, K::Summary>], cursor: &mut Cursor) -> Option<K::Element>
+pub fn advance<K: Kind>(
+    kind: &K,
+    cells: &[Cell<K::Element, K::Summary>],
+    cursor: &mut Cursor,
+) -> Option<K::Element>
     requires sound { ⌜ Sound (meaning (now kind)) (now cells) ⌝ }
     requires ready { ⌜ Ready (meaning (now kind)) (now cells) (now cursor) ⌝ }
     ensures ready { λ _. ⌜ Ready (meaning (now (kind .entry))) (now (cells .entry)) (now (cursor .exit)) ⌝ }
