@@ -17,7 +17,7 @@ use Rattle.cells.specs.declared.pool.Pool.{Pool}
 use Rattle.cells.specs.Cells.{counted, countAt, referred, refsAt, linked, Live, Good, Sound}
 use Rattle.cells.specs.Reach.{hit, occurs, Among, SameCell, Stays, AllStay, Remains, Takes}
 use Rattle.cells.specs.References.{linksIf, links, Counted, used, Chain, Arena}
-use Rattle.cells.specs.Moves.{withRefs, retainedAt, retained, Retains, owing, GivesUp}
+use Rattle.cells.specs.Moves.{withRefs, retainedAt, retained, Moved, Retains, owing, GivesUp}
 use Rattle.cells.proofs.Lists.{some-in, none-past, nth-set-same, nth-set-other}
 use Rattle.cells.proofs.Staying.{stays-sym, stays-refl, takes-none, takes-refl, remains-stays}
 use Rattle.cells.proofs.Names.{hit-same, hit-other, links-live, links-free, links-set, used-set, names-few}
@@ -42,6 +42,9 @@ module _ {E A S : Type 0} (k : Meaning E A S) (a : List (Cell E S)) (p : Pool) (
   pub refs-few : (i : ℕ) → refsAt a i ≤ 131070 + length rs
   refs-few i = refs-at i (nth a i) refl
 
+  pub refs-room : (i : ℕ) (c : Cell E S) → nth a i ≡ Some c → length rs ≤ 2 ^ 30 → c .refs + 1 < 2 ^ 32
+  refs-room i c e few = let h = refs-at i (Some c) e in omega arith
+
   -- roots counted alike are as good
   pub rerooted : (ys : List ℕ) → ((i : ℕ) → i < length a → occurs rs i ≡ occurs ys i) → Arena k a p ys
   rerooted ys same = record {
@@ -56,8 +59,20 @@ module _ {E A S : Type 0} (k : Meaning E A S) (a : List (Cell E S)) (p : Pool) (
   pub all-stay : (b : List (Cell E S)) → ((i : ℕ) → Live a i → Remains a b i) → AllStay a b rs
   all-stay b remains r among = remains-stays k a (arena .sound) b remains r (rooted r among)
 
+-- a cell that is owned has a reference
+pub owned-refs : {E A S : Type 0} (k : Meaning E A S) (a : List (Cell E S)) (p : Pool) (i : ℕ) (c : Cell E S) → nth a i ≡ Some c → (rs : List ℕ) → Arena k a p (i ∷ rs) → 0 < c .refs
+owned-refs k a p i c at rs arena = subst linked at (rooted k a p (i ∷ rs) arena i (let h = hit-same i in omega arith))
+
 pub stay-back : {E A S : Type 0} (k : Meaning E A S) (a b : List (Cell E S)) (q : Pool) (rs : List ℕ) → Arena k b q rs → ((i : ℕ) → Live b i → Remains b a i) → AllStay a b rs
 stay-back k a b q rs arena remained r among = stays-sym b a r (all-stay k b q rs arena a remained r among)
+
+no-new : (xs : List ℕ) (i : ℕ) → length xs ≤ 0 → Among xs i → ⊥
+no-new [] i few h = omega arith
+no-new (x ∷ xs) i few h = omega arith
+
+-- where nothing is taken, all that is in use was
+pub kept-none : {E S : Type 0} (a b : List (Cell E S)) → Takes a b 0 → (i : ℕ) → Live b i → Remains b a i
+kept-none a b t i live = ⊎-elim (λ h. absurd (no-new (t .new) i (t .few) h)) (λ r. r) (t .old i live)
 
 -- ---- the references of a cell in use change by one
 
@@ -110,19 +125,25 @@ module _ {E A S : Type 0} (k : Meaning E A S) (a : List (Cell E S)) (i : ℕ) (c
 module _ {E A S : Type 0} (k : Meaning E A S) (a : List (Cell E S)) (i : ℕ) where
   retains-at : (o : Option (Cell E S)) → nth a i ≡ o → linked o → Retains k a i (retainedAt a i o)
   retains-at None e live = record {
-    each = λ p rs arena. rerooted k a p rs arena (i ∷ rs) (λ j within. let h = hit-other i j (λ q. omega (arith, none-past a i e)) in omega arith);
-    stay = λ p rs arena r among. stays-refl a r;
+    each = λ p rs arena. record {
+      arena = rerooted k a p rs arena (i ∷ rs) (λ j within. let h = hit-other i j (λ q. omega (arith, none-past a i e)) in omega arith);
+      stay = λ r among. stays-refl a r;
+      takes = takes-refl a 0;
+      free = omega arith;
+    };
     here = λ p rs arena. stays-refl a i;
-    takes = takes-refl a 0;
   }
   retains-at (Some c) e live =
       let n : ℕ = c .refs + 1 in
       let remains = remains-recounted k a i c e (withRefs c n) (same-cell k a i c e n) (omega arith) in
       record {
-        each = λ p rs arena. arena-recounted k a i c e n p rs (i ∷ rs) arena live (omega arith) (let h = hit-same i in omega arith) (λ j ne. let h = hit-other i j ne in omega arith);
-        stay = λ p rs arena. all-stay k a p rs arena (set a i (withRefs c n)) remains;
+        each = λ p rs arena. record {
+          arena = arena-recounted k a i c e n p rs (i ∷ rs) arena live (omega arith) (let h = hit-same i in omega arith) (λ j ne. let h = hit-other i j ne in omega arith);
+          stay = all-stay k a p rs arena (set a i (withRefs c n)) remains;
+          takes = takes-none a (set a i (withRefs c n)) (remained-recounted k a i c e (withRefs c n) (same-back k a i c e n) live) 0;
+          free = omega arith;
+        };
         here = λ p rs arena. remains-stays k a (arena .sound) (set a i (withRefs c n)) remains i (subst linked (sym e) live);
-        takes = takes-none a (set a i (withRefs c n)) (remained-recounted k a i c e (withRefs c n) (same-back k a i c e n) live) 0;
       }
 
   pub retains : (b : List (Cell E S)) → b ≡ retained a i → Live a i → Retains k a i b

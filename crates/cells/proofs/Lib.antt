@@ -4,3 +4,9 @@ pub mod Staying
 pub mod Names
 pub mod Writes
 pub mod Arenas
+pub mod Lost
+pub mod Debts
+pub mod Sums
+pub mod News
+pub mod Starts
+pub mod Moving

@@ -11,10 +11,11 @@ use Rattle.faults.specs.Limits.{limit}
 use Rattle.kinds.specs.Kinds.{Meaning, Lawful, total}
 use Rattle.balance.specs.Trees.{Tree, node, count, weight, Δ}
 use Rattle.balance.specs.Ways.{span}
-use Rattle.balance.specs.Levels.{Levels, most}
+use Rattle.balance.specs.Levels.{Levels, most, deepest}
 use Rattle.cells.specs.declared.cell.Cell.{Cell}
+use Rattle.cells.specs.declared.item.Item.{Item}
 use Rattle.cells.specs.declared.pool.Pool.{Pool}
-use Rattle.cells.specs.Cells.{shape, countAt, tree}
+use Rattle.cells.specs.Cells.{shape, countAt, seen}
 use Rattle.cells.specs.Reach.{Stays, AllStay, Takes}
 use Rattle.cells.specs.References.{used, Arena, NoneLost}
 
@@ -32,30 +33,36 @@ abbrev pub retained : {E S : Type 0} → List (Cell E S) → ℕ → List (Cell 
 retained cells i = retainedAt cells i (nth cells i)
 
 module _ {E A S : Type 0} (k : Meaning E A S) where
-  -- one root more is owned
-  pub record Retains (a : List (Cell E S)) (i : ℕ) (b : List (Cell E S)) : Type 0 where
-    pub each : (p : Pool) (rs : List ℕ) → Arena k a p rs → Arena k b p (i ∷ rs)
-    pub stay : (p : Pool) (rs : List ℕ) → Arena k a p rs → AllStay a b rs
-    pub here : (p : Pool) (rs : List ℕ) → Arena k a p rs → Stays a b i
-    pub takes : Takes a b 0
-
-  -- An element with its own summary can stand between two trees.
-  pub record Fits (l : Tree E) (e : E) (own : S) (r : Tree E) : Type 0 where
-    pub lawful : Lawful k e
-    pub owns : own ≡ total k (k .atoms e)
-    pub left-light : weight l ≤ Δ * weight r
-    pub right-light : weight r ≤ Δ * weight l
-    pub few : count l + count r + 1 < 2 ^ 32
-    pub short : span (shape k) (node l e r) ≤ limit
-
-  -- Of the arena (a, p) the roots other than rs were given, and (b, q) owns the root r of the tree t for them. At most n
-  -- cells are taken, and as many fewer are free.
-  pub record Yields (a : List (Cell E S)) (p : Pool) (rs : List ℕ) (b : List (Cell E S)) (q : Pool) (r : ℕ) (t : Tree E) (n : ℕ) : Type 0 where
-    pub arena : Arena k b q (r ∷ rs)
-    pub tree-is : tree b r ≡ t
+  -- Where the arena (a, p) owned some roots and rs, (b, q) owns the roots ys and rs. What rs reach has stayed; at most n
+  -- cells are taken, and at most n fewer are free.
+  pub record Moved (a : List (Cell E S)) (p : Pool) (rs : List ℕ) (b : List (Cell E S)) (q : Pool) (ys : List ℕ) (n : ℕ) : Type 0 where
+    pub arena : Arena k b q (ys ++ rs)
     pub stay : AllStay a b rs
     pub takes : Takes a b n
     pub free : p .free ≤ q .free + n
+
+  -- so from the roots xs to the roots ys, whatever else is owned
+  abbrev pub Moves : List (Cell E S) → Pool → List ℕ → List (Cell E S) → Pool → List ℕ → ℕ → Type 0
+  Moves a p xs b q ys n = (rs : List ℕ) → Arena k a p (xs ++ rs) → Moved a p rs b q ys n
+
+  -- one root more is owned
+  pub record Retains (a : List (Cell E S)) (i : ℕ) (b : List (Cell E S)) : Type 0 where
+    pub each : (p : Pool) (rs : List ℕ) → Arena k a p rs → Moved a p rs b p (i ∷ []) 0
+    pub here : (p : Pool) (rs : List ℕ) → Arena k a p rs → Stays a b i
+
+  -- An element with its own summary can stand between two trees.
+  pub record Fits (l : Tree E) (item : Item E S) (r : Tree E) : Type 0 where
+    pub lawful : Lawful k (item .element)
+    pub owns : item .own ≡ total k (k .atoms (item .element))
+    pub left-light : weight l ≤ Δ * weight r
+    pub right-light : weight r ≤ Δ * weight l
+    pub few : count l + count r + 1 < 2 ^ 32
+    pub short : span (shape k) (node l (item .element) r) ≤ limit
+
+  -- The given roots have become the root r, whose tree, as seen, is t.
+  pub record Yields (flip : Bool) (a : List (Cell E S)) (p : Pool) (rs : List ℕ) (b : List (Cell E S)) (q : Pool) (r : ℕ) (t : Tree E) (n : ℕ) : Type 0 where
+    pub moved : Moved a p rs b q (r ∷ []) n
+    pub tree-is : seen flip b r ≡ t
 
   -- the roots that are owned once a reference to the cell c is given up: where it was the last, the cell's children
   abbrev pub owing : Bool → Cell E S → List ℕ → List ℕ
@@ -76,6 +83,7 @@ module _ {E A S : Type 0} (k : Meaning E A S) where
     pub rest : List ℕ
     pub arena : Arena k a p (take top table ++ rest)
     pub size : length table ≡ 64
+    pub low : top ≤ deepest + 1
     pub tapers : Tapers a table top
 
   -- one of them was given up
@@ -83,14 +91,12 @@ module _ {E A S : Type 0} (k : Meaning E A S) where
     pub each : (rs : List ℕ) → Arena k a p (take top table ++ rs) → Arena k b q (take left after ++ rs)
     pub takes : Takes a b 0
     pub size : length after ≡ 64
+    pub low : left ≤ deepest + 1
     pub tapers : Tapers b after left
     pub falls : 2 * used b + left < 2 * used a + top
     pub more : p .free ≤ q .free
 
-  -- The root r is no longer owned. What only it reached is free: what the others reach, and no more, is in use.
+  -- A root is no longer owned. What only it reached is free: what the others reach, and no more, is in use.
   pub record Releases (a : List (Cell E S)) (p : Pool) (rs : List ℕ) (b : List (Cell E S)) (q : Pool) : Type 0 where
-    pub arena : Arena k b q rs
-    pub stay : AllStay a b rs
-    pub takes : Takes a b 0
-    pub more : p .free ≤ q .free
+    pub moved : Moved a p rs b q [] 0
     pub none-lost : NoneLost k b q rs

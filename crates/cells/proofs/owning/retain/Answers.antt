@@ -1,16 +1,15 @@
-use mathlib.Core.Path.{_≡_, refl, sym, ap, _∙_}
+use mathlib.Core.Path.{sym, ap, _∙_}
 use native.Mathlib.Omega.{arith}
 use Rattle.std.proofs.shelf.Maps.{nth-past}
-use Rattle.cells.specs.Cells.{referred}
-use Rattle.cells.specs.Moves.{retainedAt, retained}
-use Rattle.cells.proofs.Arenas.{refs-few, retains}
+use Rattle.cells.specs.Moves.{retainedAt}
+use Rattle.cells.proofs.Arenas.{refs-room, retains}
 use Rattle.cells.proofs.owning.retain.Needs as need
 
 pub add-c : need.add-c
 add-c g c =
     let h = c .pre .holds .1 in
-    let few = refs-few (g .K·Kind .meaning (c .args .kind .now)) (c .args .cells .now) (c .pre .holds .0) (h .rest) (h .arena) (c .args .i) in
-    omega (arith, ap referred (c .cell-at-c .ensures), h .few)
+    let room = refs-room (g .K·Kind .meaning (c .args .kind .now)) (c .args .cells .now) (c .pre .holds .0) (h .rest) (h .arena) (c .args .i) (c .cell-at-c .result) (c .cell-at-c .ensures) (h .few) in
+    omega arith
 
 pub returns-then-i-cells : need.returns-then-i-cells
 returns-then-i-cells g c =
