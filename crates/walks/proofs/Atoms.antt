@@ -14,10 +14,10 @@ use Rattle.std.proofs.shelf.Elements.{all-append}
 use Rattle.kinds.specs.Kinds.{Meaning, Laws, Lawful, Within}
 use Rattle.kinds.proofs.Totals.{part-lawful}
 use Rattle.balance.specs.Trees.{elements}
-use Rattle.balance.specs.Lists.{Shape, front, back, between}
+use Rattle.balance.specs.Lists.{front, back, between}
 use Rattle.balance.proofs.Tests.{tests, by-test}
 use Rattle.cells.specs.declared.cell.Cell.{Cell}
-use Rattle.cells.specs.Cells.{shape, counted, countAt, tree, meant, linked, Live, Sound}
+use Rattle.cells.specs.Cells.{shape, counted, countAt, tree, linked, Live, Sound}
 use Rattle.cells.proofs.Trees.{none-tree, opened}
 
 module _ {E A S : Type 0} (k : Meaning E A S) (laws : Laws k) where

@@ -1,6 +1,6 @@
 -- Cursors: where they begin, and what a step gives.
 use mathlib.Core.Path.{_≡_, refl, sym, ap, subst, _∙_}
-use mathlib.Core.Bool.{Bool, true, false, cond}
+use mathlib.Core.Bool.{false}
 use mathlib.Core.Logic.{⊎-elim}
 use mathlib.Core.List.{List, [], _∷_, _++_, append-assoc, append-nil}
 use Prim.Native.Nat.{ℕ, zero, suc, _+_, _-_, _≤_, _<_}
@@ -8,7 +8,7 @@ use native.Mathlib.Numerals.{add-one}
 use native.Mathlib.Omega.{arith}
 use borrow.Author.Tests.{eq-eqb, ne-eqb}
 use lib.Dec.{eqb}
-use lib.ListN.{length, take, set, getD, length-set, length-take}
+use lib.ListN.{length, take, set, getD, length-set}
 use lib.Seq.{take-suc-set}
 use Rattle.std.proofs.shelf.Lists.{take-more}
 use Rattle.std.proofs.shelf.Tests.{cases-eq}
@@ -18,11 +18,11 @@ use Rattle.std.specs.declared.option.Option.the-variants.{Some}
 use Rattle.kinds.specs.Kinds.{Meaning, Laws, Lawful, Within}
 use Rattle.kinds.proofs.Totals.{part-lawful, part-extent}
 use Rattle.balance.specs.Trees.{Tree, elements}
-use Rattle.balance.specs.Levels.{most, deepest}
+use Rattle.balance.specs.Levels.{most}
 use Rattle.balance.specs.Links.{link, rebuilt}
-use Rattle.balance.specs.Lists.{Shape, extents, front, back, between}
-use Rattle.balance.specs.Ways.{Way, here, whole, Step, toLeft, toRight, walked, passedLeft, passedRight, passedSpan, span, way, place, Found}
-use Rattle.balance.specs.Edits.{Rest, more, listed, onFrom, rest}
+use Rattle.balance.specs.Lists.{Shape, extents, front, back}
+use Rattle.balance.specs.Ways.{Way, here, whole, Step, toLeft, toRight, walked, passedLeft, passedRight, passedSpan, span, place, Found}
+use Rattle.balance.specs.Edits.{more, listed, onFrom, rest}
 use Rattle.balance.proofs.Tests.{test-true, test-false}
 use Rattle.balance.proofs.Mirrors.{mirror-span}
 use Rattle.balance.proofs.Links.{link-elements}
@@ -31,14 +31,14 @@ use Rattle.balance.proofs.Ways.{span-extents, way-through, way-leads}
 use Rattle.balance.proofs.Edits.{rest-listed}
 use Rattle.balance.proofs.Loops.{rest-walked, walked-span}
 use Rattle.cells.specs.declared.cell.Cell.{Cell}
-use Rattle.cells.specs.Cells.{shape, counted, countAt, tree, seen, far, linked, Live, Sound}
+use Rattle.cells.specs.Cells.{shape, counted, countAt, tree, Live, Sound}
 use Rattle.cells.proofs.Lists.{some-in}
 use Rattle.walks.specs.declared.answers.Found.{Found as Answer}
 use Rattle.walks.specs.declared.cursor.Cursor.{Cursor}
 use Rattle.walks.specs.Nesting.{Nested, fromOwn, pending}
-use Rattle.walks.specs.Walks.{Passed, Table, Walked}
+use Rattle.walks.specs.Walks.{Table, Walked}
 use Rattle.walks.specs.Spines.{Spine}
-use Rattle.walks.specs.Cursors.{Behind, Begun, waiting, ahead, Ready, Begins, Gave, Ended}
+use Rattle.walks.specs.Cursors.{Behind, Begun, waiting, ahead, Ready, Begins, Gave}
 use Rattle.walks.proofs.Atoms.{atoms-between, tree-lawful}
 use Rattle.walks.proofs.Nestings.{nested-push, nested-less, nested-wider, nested-pop, nested-last, pending-push, pending-begun}
 

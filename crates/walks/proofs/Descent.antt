@@ -11,7 +11,7 @@ use Rattle.std.specs.Finite.{nth}
 use Rattle.std.specs.declared.option.Option.the-variants.{Some}
 use Rattle.kinds.specs.Kinds.{Meaning}
 use Rattle.balance.specs.Trees.{Tree, node, count}
-use Rattle.balance.specs.Ways.{Way, depth, Step, toLeft, toRight, walked, passedLeft, passedRight, span, way}
+use Rattle.balance.specs.Ways.{depth, Step, toLeft, toRight, walked, passedLeft, passedRight, span, way}
 use Rattle.balance.specs.Levels.{most, deepest}
 use Rattle.balance.proofs.Ways.{way-left, way-here, way-right, way-shallow, way-deep}
 use Rattle.balance.proofs.Loops.{walked-last, walked-depth, passedLeft-append, passedRight-append}

@@ -1,8 +1,7 @@
 -- Tables of cells that lie inside one another: they are short, and what waits in them comes in order.
 use mathlib.Core.Path.{_≡_, refl, sym, ap, subst, _∙_}
 use mathlib.Core.List.{List, [], _∷_, _++_, append-assoc, append-nil}
-use Prim.Native.Nat.{ℕ, _+_, _*_, _≤_, _<_}
-use native.Mathlib.Nat.{le-trans}
+use Prim.Native.Nat.{ℕ, _+_, _≤_, _<_}
 use native.Mathlib.Numerals.{add-one}
 use native.Mathlib.Omega.{arith}
 use lib.ListN.{length, take, set, length-set, length-take}
@@ -11,15 +10,14 @@ use Rattle.std.specs.Finite.{nth}
 use Rattle.std.specs.declared.option.Option.{Option}
 use Rattle.std.specs.declared.option.Option.the-variants.{Some, None}
 use Rattle.kinds.specs.Kinds.{Meaning, Laws}
-use Rattle.balance.specs.Trees.{Tree, elements}
+use Rattle.balance.specs.Trees.{elements}
 use Rattle.balance.specs.Levels.{Levels, most, deepest}
-use Rattle.balance.specs.Lists.{Shape}
 use Rattle.balance.proofs.Levels.{levels-none, levels-more, levels-wider, levels-narrower, levels-few}
 use Rattle.cells.specs.declared.cell.Cell.{Cell}
 use Rattle.cells.specs.Cells.{shape, counted, countAt, tree, linked, Live, Sound}
 use Rattle.cells.proofs.Lists.{some-in}
 use Rattle.cells.proofs.Trees.{none-tree, opened}
-use Rattle.walks.specs.Nesting.{Under, Nested, fromOwn, pending}
+use Rattle.walks.specs.Nesting.{Nested, fromOwn, pending}
 use Rattle.walks.specs.Spines.{Spine}
 use Rattle.walks.specs.Cursors.{Begun}
 

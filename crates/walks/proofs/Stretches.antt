@@ -1,11 +1,10 @@
 -- Stretches of a list that is made of others.
-use mathlib.Core.Path.{_≡_, refl, sym, ap, _∙_}
-use mathlib.Core.List.{List, [], _∷_, _++_, append-assoc}
+use mathlib.Core.Path.{_≡_, sym, ap, _∙_}
+use mathlib.Core.List.{List, [], _∷_, _++_}
 use Prim.Native.Nat.{ℕ, zero, suc, _+_, _-_, min, _≤_, _<_}
 use native.Mathlib.Omega.{arith}
 use lib.ListN.{length, take, drop, length-drop}
 use lib.Seq.{take-all, take-append-le, drop-append-le, take-append-add, drop-append-add}
-use Rattle.std.proofs.shelf.Lists.{drop-all}
 
 module _ {A : Type 0} where
   -- the first atoms of two lists, and the others

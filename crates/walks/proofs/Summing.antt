@@ -1,6 +1,6 @@
 -- The walks that sum up a range, turn by turn.
 use mathlib.Core.Path.{_≡_, refl, sym, ap, subst, _∙_}
-use mathlib.Core.List.{List, [], _∷_, _++_, append-assoc, append-nil}
+use mathlib.Core.List.{List, [], _++_, append-assoc, append-nil}
 use Prim.Native.Nat.{ℕ, _+_, _-_, min, _≤_, _<_}
 use native.Mathlib.Omega.{arith}
 use lib.ListN.{length, take, drop, length-drop}
@@ -10,7 +10,6 @@ use Rattle.std.specs.Finite.{nth}
 use Rattle.std.specs.declared.option.Option.the-variants.{Some}
 use Rattle.faults.specs.Limits.{limit}
 use Rattle.kinds.specs.Kinds.{Meaning, Laws, Joinable, total}
-use Rattle.balance.specs.Trees.{Tree}
 use Rattle.balance.specs.Ways.{span}
 use Rattle.cells.specs.declared.cell.Cell.{Cell}
 use Rattle.cells.specs.Cells.{shape, tree, meant, sumAt, Live, Sound}

@@ -9,7 +9,7 @@ use Rattle.std.specs.declared.option.Option.the-variants.{Some}
 use Rattle.kinds.specs.Kinds.{Meaning}
 use Rattle.balance.specs.Trees.{Tree, count}
 use Rattle.balance.specs.Levels.{deepest}
-use Rattle.balance.specs.Ways.{Way, here, depth, Step, walked, passedLeft, passedRight, way}
+use Rattle.balance.specs.Ways.{here, depth, Step, walked, passedLeft, passedRight, way}
 use Rattle.cells.specs.declared.cell.Cell.{Cell}
 use Rattle.cells.specs.Cells.{shape, tree, seen, far, countAt}
 use Rattle.walks.specs.declared.answers.Found.{Found}

@@ -3,8 +3,8 @@
 // `left` how many atoms of the range are still to come.
 #[derive(Clone, Copy)]
 pub struct Cursor {
-    pub table: [u32; 64],
-    pub depth: usize,
-    pub offset: u32,
-    pub left: u32,
+    pub(crate) table: [u32; 64],
+    pub(crate) depth: usize,
+    pub(crate) offset: u32,
+    pub(crate) left: u32,
 }

@@ -1,5 +1,5 @@
 // The walk to a place, which all that reads or changes a tree begins with.
-ghost use Prim.Native.Nat.{ℕ, _<_, _≤_};
+ghost use Prim.Native.Nat.{_<_, _≤_};
 ghost use Rattle.balance.specs.Ways.{span};
 ghost use Rattle.balance.specs.Levels.{most};
 ghost use Rattle.cells.specs.Cells.{shape, tree, countAt, Live, Sound};

@@ -1,7 +1,7 @@
 // The summary of a range. Two walks go down from the cell at which the range parts, one to each end; what lies between them
 // is taken by the summaries of cells, and only the two end pieces are asked of the kind.
 ghost use mathlib.Core.Path.{_≡_};
-ghost use Prim.Native.Nat.{ℕ, _+_, _<_, _≤_};
+ghost use Prim.Native.Nat.{_+_, _<_, _≤_};
 ghost use lib.ListN.{take, drop};
 ghost use Rattle.kinds.specs.Kinds.{Lawful, Within, total};
 ghost use Rattle.balance.specs.Ways.{span};

@@ -1,7 +1,6 @@
 // Going through the elements of a range in order. From an element to the next the cursor goes up and down its table, two
 // steps an element all in all.
-ghost use mathlib.Core.Path.{_≡_};
-ghost use Prim.Native.Nat.{ℕ, _+_, _<_, _≤_};
+ghost use Prim.Native.Nat.{_+_, _<_, _≤_};
 ghost use lib.ListN.{length, take};
 ghost use Rattle.std.specs.Options.{Cases as BySome};
 ghost use Rattle.kinds.specs.Kinds.{Lawful};

@@ -1,5 +1,5 @@
 // The walk to a tally: down by the tallies of summaries, then by halves within the element that it ends at.
-ghost use Prim.Native.Nat.{ℕ, _<_, _≤_};
+ghost use Prim.Native.Nat.{_<_, _≤_};
 ghost use Rattle.kinds.specs.Kinds.{Lawful, Tallies, total};
 ghost use Rattle.balance.specs.Levels.{most};
 ghost use Rattle.cells.specs.Cells.{tree, meant, countAt, Live, Sound};
