@@ -11,15 +11,17 @@ use Rattle.std.specs.Finite.{nth}
 use Rattle.std.specs.declared.option.Option.the-variants.{Some}
 use Rattle.kinds.specs.Kinds.{Meaning}
 use Rattle.balance.specs.Trees.{Tree, node, count}
-use Rattle.balance.specs.Ways.{Way, depth, Step, toLeft, toRight, walked, passedLeft, passedRight, span, way}
+use Rattle.balance.specs.Ways.{depth, Step, toLeft, toRight, walked, passedLeft, passedRight, span, way}
 use Rattle.balance.specs.Levels.{most, deepest}
 use Rattle.balance.proofs.Ways.{way-left, way-here, way-right, way-shallow, way-deep}
 use Rattle.balance.proofs.Loops.{walked-last, walked-depth, passedLeft-append, passedRight-append}
 use Rattle.cells.specs.declared.cell.Cell.{Cell}
 use Rattle.cells.specs.Cells.{shape, countAt, tree, seen, Live, Good, Sound}
 use Rattle.cells.proofs.Trees.{known}
+use Rattle.walks.specs.Nesting.{Nested}
 use Rattle.walks.specs.Walks.{Table, Leads, Walked}
-use Rattle.walks.proofs.Nodes.{inside-named, node-live, node-good, node-is, node-span}
+use Rattle.walks.proofs.Nodes.{inside-named, node-live, node-good, node-is, node-span, node-count}
+use Rattle.walks.proofs.Nestings.{nested-push, nested-less}
 use Rattle.walks.proofs.Tables.{table-length, table-last}
 
 -- the first n places of a table of 64 are filled
@@ -38,6 +40,7 @@ pub record Descent {E A S : Type 0} (k : Meaning E A S) (cells : List (Cell E S)
   pub is : way (shape k) (tree cells root) p ≡ walked steps (way (shape k) (tree cells cell) at)
   pub to-left : Table false cells (take l lefts) (passedLeft steps)
   pub to-right : Table true cells (take r rights) (passedRight steps)
+  pub nested : Nested cells (countAt cells root + 1) (take l lefts) (countAt cells cell + 1)
   pub left-filled : Filled lefts l
   pub right-filled : Filled rights r
 
@@ -47,11 +50,9 @@ module _ {E A S : Type 0} (k : Meaning E A S) (cells : List (Cell E S)) (sound :
   leads-by root p c live few is =
       let root-known = known k cells sound root live in
       let deep = way-deep (shape k) (tree cells root) p (root-known .balanced) in
-      let w : ℕ = countAt cells root + 1 in
-      let same : count (tree cells root) + 1 ≡ w = omega (arith, root-known .counts) in
       record {
         counted = sym is;
-        deep = subst (λ (d : ℕ). 4 ^ d ≤ 3 ^ d * w) is (subst (λ (v : ℕ). 4 ^ depth (way (shape k) (tree cells root) p) ≤ 3 ^ depth (way (shape k) (tree cells root) p) * v) same deep);
+        deep = subst (λ (d : ℕ). 4 ^ d ≤ 3 ^ d * (count (tree cells root) + 1)) is deep;
         short = omega (arith, is, way-shallow (shape k) (tree cells root) p (root-known .balanced) (omega (arith, root-known .counts)));
       }
 
@@ -63,6 +64,7 @@ module _ {E A S : Type 0} (k : Meaning E A S) (cells : List (Cell E S)) (sound :
     is = refl;
     to-left = tt;
     to-right = tt;
+    nested = omega arith;
     left-filled = record { long = long; fits = omega arith };
     right-filled = record { long = long′; fits = omega arith };
   }
@@ -109,6 +111,11 @@ module _ {E A S : Type 0} (k : Meaning E A S) (cells : List (Cell E S)) (sound :
             (table-last false cells (take l lefts) (passedLeft (d .steps)) cell (c .element, R) (d .to-left)
             (record { cell = c; at = e; live = node-live k cells sound cell c e (d .live); is = refl }));
         to-right = rw (passedRight-append (d .steps) (toLeft (c .element) R ∷ []), append-nil (passedRight (d .steps))) (d .to-right);
+        nested =
+            let room : l < length lefts = omega (arith, d .left-filled .long) in
+            let filled : take (l + 1) (set lefts l cell) ≡ take l lefts ++ (cell ∷ []) = rw add-one (take-suc-set lefts l cell room) in
+            subst (λ is. Nested cells (countAt cells root + 1) is (countAt cells (c .left) + 1)) (sym filled)
+            (nested-push cells (countAt cells root + 1) (take l lefts) (countAt cells cell + 1) cell c (d .nested) e (node-live k cells sound cell c e (d .live)) (omega arith));
         left-filled = filled-more lefts l cell (d .left-filled) (omega arith);
         right-filled = d .right-filled;
       }
@@ -128,6 +135,7 @@ module _ {E A S : Type 0} (k : Meaning E A S) (cells : List (Cell E S)) (sound :
             rw (add-one, take-suc-set rights r cell room, passedRight-append (d .steps) (toRight L (c .element) ∷ []))
             (table-last true cells (take r rights) (passedRight (d .steps)) cell (c .element, seen true cells (c .left)) (d .to-right)
             (record { cell = c; at = e; live = node-live k cells sound cell c e (d .live); is = refl }));
+        nested = nested-less cells (countAt cells root + 1) (take l lefts) (countAt cells cell + 1) (countAt cells (c .right) + 1) (d .nested) (omega (arith, node-count k cells sound cell c e (d .live)));
         left-filled = d .left-filled;
         right-filled = filled-more rights r cell (d .right-filled) (omega arith);
       }
@@ -147,5 +155,6 @@ module _ {E A S : Type 0} (k : Meaning E A S) (cells : List (Cell E S)) (sound :
             inside = low;
             to-left = d .to-left;
             to-right = d .to-right;
+            nested = d .nested;
             leads = leads-by root p (l + r + 1) live few depth-is;
           }

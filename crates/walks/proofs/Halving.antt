@@ -1,13 +1,13 @@
 -- Tallies of lists, and the place at which a tally passes a number, found by halves.
-use mathlib.Core.Path.{_≡_, refl, sym, ap, subst, _∙_}
+use mathlib.Core.Path.{_≡_, ap, subst, _∙_}
 use mathlib.Core.List.{List, [], _∷_, _++_}
 use Prim.Native.Nat.{ℕ, _+_, _-_, _≤_, _<_}
 use native.Mathlib.Omega.{arith}
 use lib.ListN.{length, take, drop, length-append}
-use lib.Seq.{take-add, take-length, drop-drop, take-append-add, take-append-le}
+use lib.Seq.{take-add, take-length, take-append-add, take-append-le}
 use Rattle.kinds.specs.Kinds.{Meaning, Laws, Tallies, total}
 use Rattle.walks.specs.Tallying.{Passes}
-use Rattle.walks.proofs.Sums.{Few, few-left, few-take, parts-joinable, parts-total}
+use Rattle.walks.proofs.Sums.{Few, few-take, parts-joinable, parts-total}
 
 module _ {E A S : Type 0} (k : Meaning E A S) (tally : S → ℕ) where
   -- the tally of a list of atoms

@@ -1,5 +1,5 @@
 -- The way to a place ends at the element that holds it.
-use mathlib.Core.Path.{_≡_, refl, sym, ap, subst, _∙_}
+use mathlib.Core.Path.{_≡_, sym, ap, subst, _∙_}
 use mathlib.Core.List.{List, [], _∷_, _++_, append-assoc}
 use Prim.Native.Nat.{ℕ, _+_, _<_}
 use native.Mathlib.Omega.{arith}
@@ -8,7 +8,7 @@ use Rattle.std.specs.declared.option.Option.the-variants.{Some}
 use Rattle.kinds.specs.Kinds.{Meaning}
 use Rattle.balance.specs.Trees.{Tree, elements}
 use Rattle.balance.specs.Lists.{Shape, extents}
-use Rattle.balance.specs.Ways.{Way, lost, here, left, right, whole, Spot, spot, span, way, place, Found, walked}
+use Rattle.balance.specs.Ways.{Way, lost, here, left, right, whole, Spot, spot, span, way, place, Found}
 use Rattle.balance.proofs.Lists.{extents-append}
 use Rattle.balance.proofs.Ways.{span-extents, way-through, way-leads}
 use Rattle.balance.proofs.Loops.{walked-spot}

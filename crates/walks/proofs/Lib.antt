@@ -1,9 +1,12 @@
 pub mod Nodes
+pub mod Nestings
 pub mod Tables
 pub mod Descent
 pub mod Holding
 pub mod Sums
 pub mod Stretches
 pub mod Summing
+pub mod Atoms
+pub mod Cursors
 pub mod Halving
 pub mod Seeking

@@ -9,7 +9,7 @@ use Rattle.std.specs.shelf.Lists.{joined}
 use Rattle.std.specs.declared.option.Option.{Option}
 use Rattle.std.specs.declared.option.Option.the-variants.{Some, None}
 use Rattle.kinds.specs.Kinds.{Meaning}
-use Rattle.balance.specs.Trees.{Tree, node, elements}
+use Rattle.balance.specs.Trees.{node, elements}
 use Rattle.balance.specs.Ways.{span}
 use Rattle.cells.specs.declared.cell.Cell.{Cell}
 use Rattle.cells.specs.Cells.{shape, counted, countAt, tree, meant, linked, Live, Good, Sound}

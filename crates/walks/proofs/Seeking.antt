@@ -1,8 +1,8 @@
 -- The walk to a tally, turn by turn.
 use mathlib.Core.Path.{_≡_, refl, sym, ap, subst, _∙_}
-use mathlib.Core.List.{List, [], _∷_, _++_, append-assoc, append-nil}
-use Prim.Native.Nat.{ℕ, suc, _+_, _≤_, _<_}
-use native.Mathlib.Nat.{zero-add, add-zero}
+use mathlib.Core.List.{List, [], _++_, append-assoc, append-nil}
+use Prim.Native.Nat.{ℕ, _+_, _≤_, _<_}
+use native.Mathlib.Nat.{zero-add}
 use native.Mathlib.Omega.{arith}
 use lib.ListN.{length, length-append}
 use Rattle.std.specs.Finite.{nth}
@@ -122,12 +122,12 @@ module _ {E A S : Type 0} (k : Meaning E A S) (laws : Laws k) (tally : S → ℕ
         reached = s .reached;
         inside = low;
         leads = λ q inside.
-        omega (
-          arith,
-          s .leads q (omega (arith, node-span k cells sound cell c at (s .live))),
-          ap (λ u. depth (way (shape k) u q)) here-is,
-          ap depth (way-left (shape k) L (c .element) R q inside),
-        );
+            omega (
+              arith,
+              s .leads q (omega (arith, node-span k cells sound cell c at (s .live))),
+              ap (λ u. depth (way (shape k) u q)) here-is,
+              ap depth (way-left (shape k) L (c .element) R q inside),
+            );
       }
 
       pub sought-right : (r b : ℕ) → rest ≡ tallyOf k tally left-atoms + tallyOf k tally own-atoms + r → b ≡ base + span (shape k) L + length own-atoms
@@ -150,15 +150,15 @@ module _ {E A S : Type 0} (k : Meaning E A S) (laws : Laws k) (tally : S → ℕ
             );
             inside = omega (arith, node-tally, s .inside);
             leads = λ q inside.
-            let far = span (shape k) L + length own-atoms + q in
-            let there : base + far ≡ b + q = omega arith in
-            omega (
-              arith,
-              s .leads far (omega (arith, node-span k cells sound cell c at (s .live))),
-              ap (λ (n : ℕ). depth (way (shape k) (tree cells root) n)) there,
-              ap (λ u. depth (way (shape k) u far)) here-is,
-              ap depth (way-right (shape k) L (c .element) R q),
-            );
+                let far = span (shape k) L + length own-atoms + q in
+                let there : base + far ≡ b + q = omega arith in
+                omega (
+                  arith,
+                  s .leads far (omega (arith, node-span k cells sound cell c at (s .live))),
+                  ap (λ (n : ℕ). depth (way (shape k) (tree cells root) n)) there,
+                  ap (λ u. depth (way (shape k) u far)) here-is,
+                  ap depth (way-right (shape k) L (c .element) R q),
+                );
           }
 
       -- there are no more atoms before the cell's own, and before its right child, than the limit
@@ -182,18 +182,18 @@ module _ {E A S : Type 0} (k : Meaning E A S) (laws : Laws k) (tally : S → ℕ
           let listed′ = listed-here ∙ to-own (s .front) left-atoms own-atoms right-atoms (s .behind) in
           let few-all : Few k (front′ ++ (own-atoms ++ (right-atoms ++ s .behind))) = subst (Few k) listed′ (few-tree k cells sound root live) in
           let found = passes-in k laws tally adds front′ own-atoms (right-atoms ++ s .behind) t past n few-all
-              (omega (arith, s .reached, tally-append k laws tally adds (s .front) left-atoms (few-left k front′ (own-atoms ++ (right-atoms ++ s .behind)) few-all))) p in
+          (omega (arith, s .reached, tally-append k laws tally adds (s .front) left-atoms (few-left k front′ (own-atoms ++ (right-atoms ++ s .behind)) few-all))) p in
           let far : ℕ = span (shape k) L + n in
           let place-far : place ≡ base + far = omega arith in
           let place-front : length front′ + n ≡ place = omega (arith, length-append (s .front) left-atoms, meant-span k L, s .based) in
           let deep : depth (way (shape k) (tree cells root) place) ≡ count =
-              omega (
-                arith,
-                ap (λ (m : ℕ). depth (way (shape k) (tree cells root) m)) place-far,
-                s .leads far (omega (arith, p .inside, node-span k cells sound cell c at (s .live))),
-                ap (λ u. depth (way (shape k) u far)) here-is,
-                ap depth (way-here (shape k) L (c .element) R n (p .inside)),
-              ) in
+          omega (
+            arith,
+            ap (λ (m : ℕ). depth (way (shape k) (tree cells root) m)) place-far,
+            s .leads far (omega (arith, p .inside, node-span k cells sound cell c at (s .live))),
+            ap (λ u. depth (way (shape k) u far)) here-is,
+            ap depth (way-here (shape k) L (c .element) R n (p .inside)),
+          ) in
           record {
             passes = subst (λ (m : ℕ). Passes k tally (meant k (tree cells root)) t m) place-front (subst (λ l. Passes k tally l t (length front′ + n)) (sym listed′) found);
             leads = leads-by k cells sound root place count live few deep;

@@ -1,11 +1,10 @@
 -- Stretches of a list that is made of others.
-use mathlib.Core.Path.{_≡_, refl, sym, ap, _∙_}
-use mathlib.Core.List.{List, [], _∷_, _++_, append-assoc}
+use mathlib.Core.Path.{_≡_, sym, ap, _∙_}
+use mathlib.Core.List.{List, [], _∷_, _++_}
 use Prim.Native.Nat.{ℕ, zero, suc, _+_, _-_, min, _≤_, _<_}
 use native.Mathlib.Omega.{arith}
 use lib.ListN.{length, take, drop, length-drop}
 use lib.Seq.{take-all, take-append-le, drop-append-le, take-append-add, drop-append-add}
-use Rattle.std.proofs.shelf.Lists.{drop-all}
 
 module _ {A : Type 0} where
   -- the first atoms of two lists, and the others
@@ -78,7 +77,7 @@ module _ {A : Type 0} where
         let own-left : length (drop skipped own) ≡ length own - skipped = length-drop skipped own in
         let left-left : length (drop at left) ≡ length left - at = length-drop at left in
         let d : drop (at - length left) (own ++ right) ≡ drop skipped own ++ right =
-            ap (λ (n : ℕ). drop n (own ++ right)) (sym skipped-is) ∙ drop-append-le skipped own right (omega arith) in
+        ap (λ (n : ℕ). drop n (own ++ right)) (sym skipped-is) ∙ drop-append-le skipped own right (omega arith) in
         let n : len - length (drop at left) ≡ rest = omega arith in
         let whole : take len (drop at left) ≡ drop at left = take-all len (drop at left) (omega arith) in
         let t : min rest (length (drop skipped own)) ≡ taken = omega arith in

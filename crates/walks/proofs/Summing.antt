@@ -1,6 +1,6 @@
 -- The walks that sum up a range, turn by turn.
 use mathlib.Core.Path.{_≡_, refl, sym, ap, subst, _∙_}
-use mathlib.Core.List.{List, [], _∷_, _++_, append-assoc, append-nil}
+use mathlib.Core.List.{List, [], _++_, append-assoc, append-nil}
 use Prim.Native.Nat.{ℕ, _+_, _-_, min, _≤_, _<_}
 use native.Mathlib.Omega.{arith}
 use lib.ListN.{length, take, drop, length-drop}
@@ -10,7 +10,6 @@ use Rattle.std.specs.Finite.{nth}
 use Rattle.std.specs.declared.option.Option.the-variants.{Some}
 use Rattle.faults.specs.Limits.{limit}
 use Rattle.kinds.specs.Kinds.{Meaning, Laws, Joinable, total}
-use Rattle.balance.specs.Trees.{Tree}
 use Rattle.balance.specs.Ways.{span}
 use Rattle.cells.specs.declared.cell.Cell.{Cell}
 use Rattle.cells.specs.Cells.{shape, tree, meant, sumAt, Live, Sound}
@@ -107,8 +106,8 @@ module _ {E A S : Type 0} (k : Meaning E A S) (laws : Laws k) (cells : List (Cel
       tail-left right s r low right-is asked asked′ =
           let good = node-good k cells sound cell c is (t .live) in
           let listed′ : drop from (meant k (tree cells link)) ≡ drop at L ++ (M ++ (R ++ t .behind)) =
-              t .listed ∙ ap (λ l. drop at l ++ t .behind) here-meant ∙ ap (λ l. l ++ t .behind) (drop-left L M R at (omega (arith, left-length)))
-              ∙ append-assoc (drop at L) (M ++ R) (t .behind) ∙ ap (λ l. drop at L ++ l) (append-assoc M R (t .behind)) in
+          t .listed ∙ ap (λ l. drop at l ++ t .behind) here-meant ∙ ap (λ l. l ++ t .behind) (drop-left L M R at (omega (arith, left-length)))
+          ∙ append-assoc (drop at L) (M ++ R) (t .behind) ∙ ap (λ l. drop at L ++ l) (append-assoc M R (t .behind)) in
           let listed″ = listed′ ∙ sym (append-assoc (drop at L) M (R ++ t .behind)) in
           let few′ = subst (Few k) listed′ (few-drop k from (meant k (tree cells link)) (few-tree k cells sound link live)) in
           record {
@@ -124,8 +123,8 @@ module _ {E A S : Type 0} (k : Meaning E A S) (laws : Laws k) (cells : List (Cel
           → p ≡ total k (take m (drop past M)) → right ≡ sumAt k cells (c .right) → JoinOf k cells right sum s → JoinOf k cells p s r → r ≡ total k (drop from (meant k (tree cells link)))
       tail-own past m right s p r at-is low m-is p-is right-is asked asked′ =
           let listed′ : drop from (meant k (tree cells link)) ≡ drop past M ++ (R ++ t .behind) =
-              t .listed ∙ ap (λ l. drop at l ++ t .behind) here-meant ∙ ap (λ l. l ++ t .behind) (drop-own L M R at past (omega (arith, left-length)) (omega arith))
-              ∙ append-assoc (drop past M) R (t .behind) in
+          t .listed ∙ ap (λ l. drop at l ++ t .behind) here-meant ∙ ap (λ l. l ++ t .behind) (drop-own L M R at past (omega (arith, left-length)) (omega arith))
+          ∙ append-assoc (drop past M) R (t .behind) in
           join-sum k laws (drop past M) (R ++ t .behind) p s r (few-parts (drop past M) listed′ right s right-is asked)
           (p-is ∙ ap (total k) (take-all m (drop past M) (omega (arith, length-drop past M)))) (behind-sum (drop past M) listed′ right s right-is asked) asked′
           ∙ ap (total k) (sym listed′)
@@ -154,7 +153,7 @@ module _ {E A S : Type 0} (k : Meaning E A S) (laws : Laws k) (cells : List (Cel
     pub head-whole : (s r : S) → rest ≡ span (shape k) (tree cells cell) → s ≡ sumAt k cells cell → JoinOf k cells sum s r → r ≡ total k (take len (meant k (tree cells link)))
     head-whole s r all s-is asked =
         let listed′ : take len (meant k (tree cells link)) ≡ h .before ++ meant k (tree cells cell) =
-            h .listed ∙ ap (λ l. h .before ++ l) (take-all rest (meant k (tree cells cell)) (omega (arith, meant-span k (tree cells cell)))) in
+        h .listed ∙ ap (λ l. h .before ++ l) (take-all rest (meant k (tree cells cell)) (omega (arith, meant-span k (tree cells cell)))) in
         join-sum k laws (h .before) (meant k (tree cells cell)) sum s r (head-few _ listed′) (h .summed) (s-is ∙ sum-is k laws cells sound cell (h .live)) asked ∙ ap (total k) (sym listed′)
 
     module _ (c : Cell E S) (is : nth cells cell ≡ Some c) where
@@ -193,8 +192,8 @@ module _ {E A S : Type 0} (k : Meaning E A S) (laws : Laws k) (cells : List (Cel
           → left ≡ sumAt k cells (c .left) → JoinOf k cells sum left s → JoinOf k cells s p r → r ≡ total k (take len (meant k (tree cells link)))
       head-own past left s p r rest-is low p-is left-is asked asked′ =
           let listed′ : take len (meant k (tree cells link)) ≡ (h .before ++ L′) ++ take past M′ =
-              h .listed ∙ ap (λ l. h .before ++ take rest l) head-meant ∙ ap (λ l. h .before ++ l) (take-own L′ M′ R′ rest past (omega (arith, head-length)) low)
-              ∙ sym (append-assoc (h .before) L′ (take past M′)) in
+          h .listed ∙ ap (λ l. h .before ++ take rest l) head-meant ∙ ap (λ l. h .before ++ l) (take-own L′ M′ R′ rest past (omega (arith, head-length)) low)
+          ∙ sym (append-assoc (h .before) L′ (take past M′)) in
           join-sum k laws (h .before ++ L′) (take past M′) s p r (head-few _ listed′) (before-sum (take past M′) listed′ left s left-is asked) p-is asked′ ∙ ap (total k) (sym listed′)
 
       pub head-right : (q : ℕ) (left s r : S) → rest ≡ span (shape k) (tree cells (c .left)) + length M′ + q → 0 < q
@@ -202,8 +201,8 @@ module _ {E A S : Type 0} (k : Meaning E A S) (laws : Laws k) (cells : List (Cel
       head-right q left s r rest-is some left-is asked asked′ =
           let good = node-good k cells sound cell c is (h .live) in
           let listed′ : take len (meant k (tree cells link)) ≡ (h .before ++ L′) ++ (M′ ++ take q R′) =
-              h .listed ∙ ap (λ l. h .before ++ take rest l) head-meant ∙ ap (λ l. h .before ++ l) (take-right L′ M′ R′ rest q (omega (arith, head-length)))
-              ∙ sym (append-assoc (h .before) L′ (M′ ++ take q R′)) in
+          h .listed ∙ ap (λ l. h .before ++ take rest l) head-meant ∙ ap (λ l. h .before ++ l) (take-right L′ M′ R′ rest q (omega (arith, head-length)))
+          ∙ sym (append-assoc (h .before) L′ (M′ ++ take q R′)) in
           let listed″ = listed′ ∙ sym (append-assoc (h .before ++ L′) M′ (take q R′)) in
           record {
             live = good .right-live;
@@ -281,8 +280,8 @@ module _ {E A S : Type 0} (k : Meaning E A S) (laws : Laws k) (cells : List (Cel
         let early = parted-early in
         let D : List A = drop (min (r .from) (length L)) L in
         let listed′ : take len (drop from (meant k (tree cells root))) ≡ D ++ (take taken (drop skipped M) ++ take (rest - taken) R) =
-            f .listed ∙ ap (λ l. take len (drop (r .from) l)) (node-meant k cells sound (r .cell) c is (f .live))
-            ∙ range-parted L M R (r .from) len skipped rest taken (omega arith) (omega arith) (omega arith) (omega arith) taken-is in
+        f .listed ∙ ap (λ l. take len (drop (r .from) l)) (node-meant k cells sound (r .cell) c is (f .live))
+        ∙ range-parted L M R (r .from) len skipped rest taken (omega arith) (omega arith) (omega arith) (omega arith) taken-is in
         let few′ = subst (Few k) listed′ (few-take k len _ (few-drop k from _ (few-tree k cells sound root live))) in
         let left-is′ : left ≡ total k D = left-is ∙ ap (λ (n : ℕ). total k (drop (min (r .from) n) L)) (sym left-length) in
         join-sum k laws D (take taken (drop skipped M) ++ take (rest - taken) R) left behind all few′ left-is′

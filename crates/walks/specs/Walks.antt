@@ -7,12 +7,13 @@ use lib.ListN.{length, take}
 use Rattle.std.specs.Finite.{nth}
 use Rattle.std.specs.declared.option.Option.the-variants.{Some}
 use Rattle.kinds.specs.Kinds.{Meaning}
-use Rattle.balance.specs.Trees.{Tree}
+use Rattle.balance.specs.Trees.{Tree, count}
 use Rattle.balance.specs.Levels.{deepest}
-use Rattle.balance.specs.Ways.{Way, here, depth, Step, walked, passedLeft, passedRight, way}
+use Rattle.balance.specs.Ways.{here, depth, Step, walked, passedLeft, passedRight, way}
 use Rattle.cells.specs.declared.cell.Cell.{Cell}
 use Rattle.cells.specs.Cells.{shape, tree, seen, far, countAt}
 use Rattle.walks.specs.declared.answers.Found.{Found}
+use Rattle.walks.specs.Nesting.{Nested}
 
 -- the cell i holds what a step passed: its element and the child behind it, as seen
 pub record Passed {E S : Type 0} (flip : Bool) (cells : List (Cell E S)) (i : ℕ) (s : E × Tree E) : Type 0 where
@@ -32,10 +33,11 @@ Table flip cells (i ∷ is) (s ∷ ss) = Passed flip cells i s × Table flip cel
 -- so balanced that c is at most the logarithm of n + 1 to the base 4/3.
 pub record Leads {E A S : Type 0} (k : Meaning E A S) (cells : List (Cell E S)) (root p c : ℕ) : Type 0 where
   pub counted : c ≡ depth (way (shape k) (tree cells root) p)
-  pub deep : 4 ^ c ≤ 3 ^ c * (countAt cells root + 1)
+  pub deep : 4 ^ c ≤ 3 ^ c * (count (tree cells root) + 1)
   pub short : c ≤ deepest
 
--- The walk to the place p ended at a cell: the way to p ends there, and the tables have what it passed.
+-- The walk to the place p ended at a cell: the way to p ends there, and the tables have what it passed. The cells that it
+-- left to their left child lie inside one another, and the one where it ended inside them all.
 pub record Walked {E A S : Type 0} (k : Meaning E A S) (cells : List (Cell E S)) (root p : ℕ) (lefts rights : List ℕ) (r : Found) : Type 0 where
   pub cell : Cell E S
   pub at : nth cells (r .cell) ≡ Some cell
@@ -45,4 +47,5 @@ pub record Walked {E A S : Type 0} (k : Meaning E A S) (cells : List (Cell E S))
   pub inside : r .offset < length (k .atoms (cell .element))
   pub to-left : Table false cells (take (r .lefts) lefts) (passedLeft steps)
   pub to-right : Table true cells (take (r .rights) rights) (passedRight steps)
+  pub nested : Nested cells (countAt cells root + 1) (take (r .lefts) lefts) (countAt cells (r .cell) + 1)
   pub leads : Leads k cells root p (r .lefts + r .rights + 1)

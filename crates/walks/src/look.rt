@@ -2,7 +2,8 @@
 ghost use mathlib.Core.Path.{_≡_};
 ghost use Rattle.balance.specs.Ways.{span};
 ghost use Rattle.cells.specs.Cells.{shape, tree, Live, Sound};
-use cells::{summary_at, Cell};
+use cells::Cell;
+use cells::summary_at;
 use kinds::Kind;
 
 // How many atoms lie under a link.

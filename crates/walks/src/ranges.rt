@@ -1,7 +1,7 @@
 // The summary of a range. Two walks go down from the cell at which the range parts, one to each end; what lies between them
 // is taken by the summaries of cells, and only the two end pieces are asked of the kind.
 ghost use mathlib.Core.Path.{_≡_};
-ghost use Prim.Native.Nat.{ℕ, _+_, _<_, _≤_};
+ghost use Prim.Native.Nat.{_+_, _<_, _≤_};
 ghost use lib.ListN.{take, drop};
 ghost use Rattle.kinds.specs.Kinds.{Lawful, Within, total};
 ghost use Rattle.balance.specs.Ways.{span};
@@ -9,7 +9,9 @@ ghost use Rattle.cells.specs.Cells.{shape, tree, meant, Live, Sound};
 ghost use Rattle.walks.specs.Ranges.{Forked};
 use crate::answers::Fork;
 use crate::look::width_at;
-use cells::{cell_at, summary_at, Cell};
+use cells::Cell;
+use cells::cell_at;
+use cells::summary_at;
 use kinds::Kind;
 
 // The summary of `len` atoms of a cell's element from the atom `from` on.
@@ -27,7 +29,12 @@ fn piece<K: Kind>(kind: &K, c: Cell<K::Element, K::Summary>, from: u32, len: u32
 }
 
 // The summary of all but the first `from` atoms under a link.
-fn tail_summary<K: Kind>(kind: &K, cells: &[Cell<K::Element, K::Summary>], link: u32, from: u32) -> K::Summary
+fn tail_summary<K: Kind>(
+    kind: &K,
+    cells: &[Cell<K::Element, K::Summary>],
+    link: u32,
+    from: u32,
+) -> K::Summary
     requires sound { ⌜ Sound (meaning (now kind)) (now cells) ⌝ }
     requires live { ⌜ Live (now cells) link ⌝ }
     requires within { ⌜ from ≤ span (shape (meaning (now kind))) (tree (now cells) link) ⌝ }
@@ -52,7 +59,10 @@ fn tail_summary<K: Kind>(kind: &K, cells: &[Cell<K::Element, K::Summary>], link:
             let past = at - before;
             let own = kind.extent(c.element);
             if past < own {
-                return kind.join(piece(kind, c, past, own - past), kind.join(summary_at(kind, cells, c.right), sum));
+                return kind.join(
+                    piece(kind, c, past, own - past),
+                    kind.join(summary_at(kind, cells, c.right), sum),
+                );
             }
             at = past - own;
             cell = c.right;
@@ -61,7 +71,12 @@ fn tail_summary<K: Kind>(kind: &K, cells: &[Cell<K::Element, K::Summary>], link:
 }
 
 // The summary of the first `len` atoms under a link.
-fn head_summary<K: Kind>(kind: &K, cells: &[Cell<K::Element, K::Summary>], link: u32, len: u32) -> K::Summary
+fn head_summary<K: Kind>(
+    kind: &K,
+    cells: &[Cell<K::Element, K::Summary>],
+    link: u32,
+    len: u32,
+) -> K::Summary
     requires sound { ⌜ Sound (meaning (now kind)) (now cells) ⌝ }
     requires live { ⌜ Live (now cells) link ⌝ }
     requires within { ⌜ len ≤ span (shape (meaning (now kind))) (tree (now cells) link) ⌝ }
@@ -97,7 +112,13 @@ fn head_summary<K: Kind>(kind: &K, cells: &[Cell<K::Element, K::Summary>], link:
 }
 
 // The lowest cell under which the whole range lies.
-fn fork<K: Kind>(kind: &K, cells: &[Cell<K::Element, K::Summary>], root: u32, from: u32, len: u32) -> Fork
+fn fork<K: Kind>(
+    kind: &K,
+    cells: &[Cell<K::Element, K::Summary>],
+    root: u32,
+    from: u32,
+    len: u32,
+) -> Fork
     requires sound { ⌜ Sound (meaning (now kind)) (now cells) ⌝ }
     requires live { ⌜ Live (now cells) root ⌝ }
     requires some { ⌜ 1 ≤ len ⌝ }
@@ -123,7 +144,13 @@ fn fork<K: Kind>(kind: &K, cells: &[Cell<K::Element, K::Summary>], root: u32, fr
 }
 
 // The summary of the `len` atoms from the place `from` on of the tree under `root`.
-pub fn overview<K: Kind>(kind: &K, cells: &[Cell<K::Element, K::Summary>], root: u32, from: u32, len: u32) -> K::Summary
+pub fn overview<K: Kind>(
+    kind: &K,
+    cells: &[Cell<K::Element, K::Summary>],
+    root: u32,
+    from: u32,
+    len: u32,
+) -> K::Summary
     requires sound { ⌜ Sound (meaning (now kind)) (now cells) ⌝ }
     requires live { ⌜ Live (now cells) root ⌝ }
     requires some { ⌜ 1 ≤ len ⌝ }

@@ -1,12 +1,15 @@
 // The walk to a tally: down by the tallies of summaries, then by halves within the element that it ends at.
-ghost use Prim.Native.Nat.{ℕ, _<_, _≤_};
+ghost use Prim.Native.Nat.{_<_, _≤_};
 ghost use Rattle.kinds.specs.Kinds.{Lawful, Tallies, total};
 ghost use Rattle.balance.specs.Levels.{most};
 ghost use Rattle.cells.specs.Cells.{tree, meant, countAt, Live, Sound};
 ghost use Rattle.walks.specs.Tallying.{Passes, Finds};
 use crate::answers::Located;
-use cells::{cell_at, summary_at, Cell};
-use kinds::{Kind, Tally};
+use cells::Cell;
+use cells::cell_at;
+use cells::summary_at;
+use kinds::Kind;
+use kinds::Tally;
 
 // The atom of the element at which its tally passes `t`. Each turn asks for half as many atoms as the one before.
 fn find_within<K: Tally>(kind: &K, element: K::Element, t: u64) -> u32
@@ -33,7 +36,12 @@ fn find_within<K: Tally>(kind: &K, element: K::Element, t: u64) -> u32
 }
 
 // The place at which the tally of the tree under `root` passes `t`.
-pub fn find<K: Tally>(kind: &K, cells: &[Cell<K::Element, K::Summary>], root: u32, t: u64) -> Located
+pub fn find<K: Tally>(
+    kind: &K,
+    cells: &[Cell<K::Element, K::Summary>],
+    root: u32,
+    t: u64,
+) -> Located
     requires sound { ⌜ Sound (K·Kind .meaning (now kind)) (now cells) ⌝ }
     requires live { ⌜ Live (now cells) root ⌝ }
     requires few { ⌜ countAt (now cells) root ≤ most ⌝ }
@@ -57,7 +65,10 @@ pub fn find<K: Tally>(kind: &K, cells: &[Cell<K::Element, K::Summary>], root: u3
             let own = kind.tally(c.own);
             let start = base + kind.width(left);
             if past < own {
-                return Located { place: start + find_within(kind, c.element, past), count };
+                return Located {
+                    place: start + find_within(kind, c.element, past),
+                    count,
+                };
             }
             rest = past - own;
             base = start + kind.extent(c.element);

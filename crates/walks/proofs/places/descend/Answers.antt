@@ -1,9 +1,17 @@
-use mathlib.Core.Path.{refl}
+use mathlib.Core.Path.{_≡_}
 use Prim.Native.Nat.{_-_}
 use native.Mathlib.Omega.{arith}
+use borrow.Author.Needs.{needs}
+use lib.ListN.{length}
 use Rattle.walks.proofs.Nodes.{node-count}
 use Rattle.walks.proofs.Descent.{start, descent-named, descent-short, descent-good, go-left, go-right, arrive}
 use Rattle.walks.proofs.places.descend.Needs as need
+
+pub loop-at-holds : need.loop-at-holds
+loop-at-holds g c =
+    let left-long : length (c .args .lefts .now) ≡ 64 = search needs in
+    let right-long : length (c .args .rights .now) ≡ 64 = search needs in
+    start (g .K·Kind .meaning (c .args .kind .now)) (c .args .cells .now) (c .pre .sound) (c .args .root) (c .args .place) (c .args .lefts .now) (c .args .rights .now) (c .pre .live) (c .pre .within) left-long right-long
 
 pub cell-at-c-requires : need.cell-at-c-requires
 cell-at-c-requires g c κs = descent-named (g .K·Kind .meaning (c .args .kind .now)) (c .args .cells .now) (c .pre .sound) _ _ _ _ _ _ _ _ (c .loop-at .inv)

@@ -1,5 +1,4 @@
-use mathlib.Core.Path.{_≡_, refl, ap, _∙_}
-use Prim.Native.Nat.{_+_, _-_}
+use Prim.Native.Nat.{_-_}
 use native.Mathlib.Omega.{arith}
 use Rattle.walks.proofs.Nodes.{node-good, node-count, node-span}
 use Rattle.walks.proofs.Summing.{fork-named, fork-left, fork-right, fork-here, span-few}

@@ -1,4 +1,4 @@
-use mathlib.Core.Path.{_≡_, refl, ap, _∙_}
+use mathlib.Core.Path.{ap, _∙_}
 use Prim.Native.Nat.{ℕ, min, _-_}
 use lib.ListN.{drop}
 use Rattle.kinds.specs.Kinds.{total}

@@ -1,9 +1,4 @@
-use mathlib.Core.Path.{_≡_, sym, ap, _∙_}
-use Prim.Native.Nat.{ℕ}
 use native.Mathlib.Omega.{arith}
-use lib.ListN.{drop, length, length-drop}
-use lib.Seq.{take-all}
-use Rattle.kinds.specs.Kinds.{total}
 use Rattle.walks.proofs.Sums.{part-sum, whole-sum}
 use Rattle.walks.proofs.ranges.piece.Needs as need
 

@@ -1,4 +1,4 @@
-use mathlib.Core.Path.{_≡_, refl, ap, _∙_}
+use mathlib.Core.Path.{refl, ap, _∙_}
 use Prim.Native.Nat.{_-_}
 use native.Mathlib.Omega.{arith}
 use Rattle.walks.proofs.Nodes.{node-good, node-count}
@@ -21,7 +21,7 @@ add-count g c =
     omega (
       arith,
       sought-short (g .K·Kind .meaning (c .args .kind .now)) (g .K·Kind .laws (c .args .kind .now)) (g .K·Tally .tallied (c .args .kind .now)) (c .pre .adds) (c .args .cells .now) (c .pre .sound)
-      _ _ _ _ _ _ (c .pre .live) (c .loop-rest .inv) (c .pre .few),
+          _ _ _ _ _ _ (c .pre .live) (c .loop-rest .inv) (c .pre .few),
     )
 
 pub loop-rest-less-then-rest-before : need.loop-rest-less-then-rest-before
