@@ -178,6 +178,6 @@ module _ {E A S : Type 0} (k : Meaning E A S) (flip : Bool) (a : List (Cell E S)
                 let cost : 1 + 3 * n + 0 ≡ 3 * length (spine L R) + 1 = omega (arith, sunk .spine-is) in
                 record {
                   moved = subst (λ m. Moved k a p rs z w (r ∷ []) m) cost
-                    (moves-then k a p (x ∷ y ∷ []) d o (r ∷ y ∷ []) (1 + 3 * n) move-d (y ∷ []) (r ∷ []) (λ i. omega arith) z w [] 0 (λ rs ar. four rs ar .moved) (r ∷ []) (λ i. omega arith) rs arena);
+                      (moves-then k a p (x ∷ y ∷ []) d o (r ∷ y ∷ []) (1 + 3 * n) move-d (y ∷ []) (r ∷ []) (λ i. omega arith) z w [] 0 (λ rs ar. four rs ar .moved) (r ∷ []) (λ i. omega arith) rs arena);
                   tree-is = seen-stays flip d z r (four (r ∷ holds .rest) arena-d .moved .stay r (let h = hit-same r in omega arith)) ∙ three .tree-is ∙ climbed-c;
                 }

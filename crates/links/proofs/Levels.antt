@@ -84,9 +84,9 @@ module _ {E A S : Type 0} (k : Meaning E A S) (flip : Bool) (a b : List (Cell E 
       low = sunk .tabled .low;
       are = λ j h. sunk .tabled .are j h ∙ sym (descent-same j);
       inside = λ j h.
-        let i = getD table j 0 in
-        let alike : Alike (nth a i) (nth b i) = subst (λ i. Alike (nth a i) (nth b i)) (sym (sunk .tabled .are j h)) (descent-stays flip a top b stays j []) in
-        alike-inside a b i (nth a i) (nth b i) refl refl alike (sunk .tabled .inside j h);
+          let i = getD table j 0 in
+          let alike : Alike (nth a i) (nth b i) = subst (λ i. Alike (nth a i) (nth b i)) (sym (sunk .tabled .are j h)) (descent-stays flip a top b stays j []) in
+          alike-inside a b i (nth a i) (nth b i) refl refl alike (sunk .tabled .inside j h);
     };
     passed = λ j h. subst (λ t. Δ * weight light < weight t) (sym (level-same j)) (sunk .passed j h);
     foot-is = sunk .foot-is ∙ sym (descent-same (foot .top));

@@ -130,13 +130,17 @@ module _ {E A S : Type 0} (k : Meaning E A S) (a : List (Cell E S)) (p : Pool) (
             → ((rs : List ℕ) → Arena k a p (y ∷ x ∷ rs) → Yields k true a p rs b q r (hung (mirror R) e (mirror L)) (3 * length (spine (mirror R) (mirror L)) + 1)) → Linked k a p x e y b q r
         linked-left t b q r yields =
             linked-by b q r (mirror (hung (mirror R) e (mirror L))) (3 * length (spine (mirror R) (mirror L)) + 1) (sym (link-left L e R (left-heavy t))) (sym (left-cost L R (left-heavy t)))
-              (λ rs ar. let w = yields rs (turned rs ar) in record { moved = w .moved; tree-is = sym (mirror-mirror (tree b r)) ∙ ap mirror (w .tree-is) })
+            (λ rs ar. let w = yields rs (turned rs ar) in record { moved = w .moved; tree-is = sym (mirror-mirror (tree b r)) ∙ ap mirror (w .tree-is) })
 
         pub even-fits : too ≡ false → other ≡ false → Whole k item → Fits k L item R
         even-fits s t whole = record {
-          lawful = whole .lawful; owns = whole .owns;
-          left-light = left-light t; right-light = right-light s;
-          few = omega (arith, linkable .few); short = linkable .short }
+          lawful = whole .lawful;
+          owns = whole .owns;
+          left-light = left-light t;
+          right-light = right-light s;
+          few = omega (arith, linkable .few);
+          short = linkable .short;
+        }
 
         pub even-some : too ≡ false → other ≡ false → linkCost L R ≤ p .free → 0 < p .free
         even-some s t some = omega (arith, even-cost L R (right-light s) (left-light t))

@@ -10,10 +10,14 @@ ghost use Rattle.cells.specs.References.{Arena, Holds};
 ghost use Rattle.cells.specs.Moves.{Yields};
 ghost use Rattle.links.specs.Opened.{Whole};
 ghost use Rattle.links.specs.Sitting.{Linkable};
-use cells::{Cell, Item, Pool, release, retain};
 use crate::climbing::climb;
 use crate::facing::make_facing;
 use crate::sinking::sink;
+use cells::Cell;
+use cells::Item;
+use cells::Pool;
+use cells::release;
+use cells::retain;
 use kinds::Kind;
 
 // The light tree of `left` goes down the near side of that of `right`; the item and it are put in there, and what was
@@ -34,8 +38,8 @@ pub fn hang<K: Kind>(
     requires some { ⌜ 3 * length (spine (seen flip (now cells) left) (seen flip (now cells) right)) + 1 ≤ now pool .free ⌝ }
     ensures { λ r. ⌜ ((rs : List ℕ) → Arena (meaning (now (kind .entry))) (now (cells .entry)) (now (pool .entry)) (left ∷ right ∷ rs)
         → Yields (meaning (now (kind .entry))) flip (now (cells .entry)) (now (pool .entry)) rs (now (cells .exit)) (now (pool .exit)) r
-            (hung (seen flip (now (cells .entry)) left) (item .element) (seen flip (now (cells .entry)) right))
-            (3 * length (spine (seen flip (now (cells .entry)) left) (seen flip (now (cells .entry)) right)) + 1)) ⌝ }
+        (hung (seen flip (now (cells .entry)) left) (item .element) (seen flip (now (cells .entry)) right))
+        (3 * length (spine (seen flip (now (cells .entry)) left) (seen flip (now (cells .entry)) right)) + 1)) ⌝ }
 {
     let mut table = [0u32; 64];
     let foot = sink(kind, cells, flip, left, right, &mut table);

@@ -11,9 +11,13 @@ ghost use Rattle.cells.specs.References.{Arena, Holds};
 ghost use Rattle.cells.specs.Moves.{Yields};
 ghost use Rattle.links.specs.Opened.{Whole};
 ghost use Rattle.links.specs.Sitting.{Linkable};
-use balance::outweighs;
-use cells::{Cell, Item, Pool, count_at, make};
 use crate::hanging::hang;
+use balance::outweighs;
+use cells::Cell;
+use cells::Item;
+use cells::Pool;
+use cells::count_at;
+use cells::make;
 use kinds::Kind;
 
 // The elements of the left root, then the item, then the elements of the right root, in one balanced tree.
@@ -31,8 +35,8 @@ pub fn link<K: Kind>(
     requires some { ⌜ linkCost (tree (now cells) left) (tree (now cells) right) ≤ now pool .free ⌝ }
     ensures yields { λ r. ⌜ ((rs : List ℕ) → Arena (meaning (now (kind .entry))) (now (cells .entry)) (now (pool .entry)) (left ∷ right ∷ rs)
         → Yields (meaning (now (kind .entry))) false (now (cells .entry)) (now (pool .entry)) rs (now (cells .exit)) (now (pool .exit)) r
-            (link (tree (now (cells .entry)) left) (item .element) (tree (now (cells .entry)) right))
-            (linkCost (tree (now (cells .entry)) left) (tree (now (cells .entry)) right))) ⌝ }
+        (link (tree (now (cells .entry)) left) (item .element) (tree (now (cells .entry)) right))
+        (linkCost (tree (now (cells .entry)) left) (tree (now (cells .entry)) right))) ⌝ }
     ensures order { λ r. ⌜ elements (tree (now (cells .exit)) r) ≡ elements (tree (now (cells .entry)) left) ++ (item .element ∷ elements (tree (now (cells .entry)) right)) ⌝ }
 {
     let before = count_at(cells, left) + 1;
