@@ -100,12 +100,12 @@ module _ {E A S : Type 0} (k : Meaning E A S) (a : List (Cell E S)) (i : ℕ) (c
       let l = links-kept j was now in
       let o = counts j (simp length-set at within) in
       ⊎-elim
-        (λ q. let h = ap (refsAt (set a i d)) q ∙ ap referred (nth-set-same a i d (some-in a i c at)) in
-              let w = ap (refsAt a) q ∙ ap referred at in
-              let x = ap (occurs rs) q in let y = ap (occurs ys) q in
-              omega arith)
-        (λ ne. let s = same j ne in let e = ap referred (nth-set-other a i j d ne) in omega arith)
-        (cases-eq j i)
+      (λ q. let h = ap (refsAt (set a i d)) q ∙ ap referred (nth-set-same a i d (some-in a i c at)) in
+      let w = ap (refsAt a) q ∙ ap referred at in
+      let x = ap (occurs rs) q in let y = ap (occurs ys) q in
+      omega arith)
+      (λ ne. let s = same j ne in let e = ap referred (nth-set-other a i j d ne) in omega arith)
+      (cases-eq j i)
 
   pub arena-recounted : (p : Pool) (rs ys : List ℕ) → Arena k a p rs → 0 < c .refs → 0 < n → n + occurs rs i ≡ c .refs + occurs ys i
       → ((j : ℕ) → j ≢ i → occurs rs j ≡ occurs ys j) → Arena k (set a i d) p ys
@@ -180,12 +180,12 @@ module _ {E A S : Type 0} (k : Meaning E A S) (a : List (Cell E S)) (p : Pool) (
       let lc = links-live (c .refs) c j (omega arith) in
       let o = counts j (simp length-set at within) in
       ⊎-elim
-        (λ q. let h = ap (λ x. hit x j) (sym q) ∙ hit-same j in
-              let now = ap (refsAt (set a i freed)) q ∙ ap referred (nth-set-same a i freed (some-in a i c at)) in
-              let was = ap (refsAt a) q ∙ ap referred at in
-              omega arith)
-        (λ ne. let h = hit-other i j ne in let same = ap referred (nth-set-other a i j freed ne) in omega arith)
-        (cases-eq j i)
+      (λ q. let h = ap (λ x. hit x j) (sym q) ∙ hit-same j in
+      let now = ap (refsAt (set a i freed)) q ∙ ap referred (nth-set-same a i freed (some-in a i c at)) in
+      let was = ap (refsAt a) q ∙ ap referred at in
+      omega arith)
+      (λ ne. let h = hit-other i j ne in let same = ap referred (nth-set-other a i j freed ne) in omega arith)
+      (cases-eq j i)
 
   arena-freed : (rs : List ℕ) → c .refs ≡ 1 → Arena k a p (i ∷ rs) → Arena k (set a i freed) (record { head = i; free = p .free + 1 }) (c .left ∷ c .right ∷ rs)
   arena-freed rs one arena =
@@ -198,7 +198,7 @@ module _ {E A S : Type 0} (k : Meaning E A S) (a : List (Cell E S)) (p : Pool) (
         sound = sound-freed k a i c at freed (arena .sound) (omega arith) refl;
         counts = counted-freed rs one (arena .counts);
         chain = subst (λ m. Chain m (set a i freed) i) (sym (add-one (p .free)))
-          (freed, nth-set-same a i freed (some-in a i c at), refl, chain-kept a i freed c at (omega arith) (p .free) (p .head) (arena .chain));
+            (freed, nth-set-same a i freed (some-in a i c at), refl, chain-kept a i freed c at (omega arith) (p .free) (p .head) (arena .chain));
         all = omega (arith, arena .all);
         long = omega (arith, arena .long);
       }
@@ -207,9 +207,9 @@ module _ {E A S : Type 0} (k : Meaning E A S) (a : List (Cell E S)) (p : Pool) (
   given-up-last b e one =
       subst (λ x. GivesUp k a p i x (record { head = i; free = p .free + 1 }) true) (sym e) (record {
         each = λ f rs is arena.
-          let s : Some c ≡ Some f = sym at ∙ is in
-          let cf : c ≡ f = cc in
-          subst (λ x. Arena k (set a i freed) (record { head = i; free = p .free + 1 }) (x .left ∷ x .right ∷ rs)) cf (arena-freed rs one arena);
+            let s : Some c ≡ Some f = sym at ∙ is in
+            let cf : c ≡ f = cc in
+            subst (λ x. Arena k (set a i freed) (record { head = i; free = p .free + 1 }) (x .left ∷ x .right ∷ rs)) cf (arena-freed rs one arena);
         takes = takes-none a (set a i freed) (remained-freed k a i c at freed refl) 0;
         same-counts = count-set a i c freed at refl;
         uses = let u = used-set a i c freed at in omega arith;

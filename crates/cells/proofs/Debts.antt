@@ -39,7 +39,7 @@ occurs-two : (t : List ℕ) (n l r : ℕ) (rs : List ℕ) (i : ℕ) → n + 1 < 
 occurs-two t n l r rs i h =
     let inside : n + 1 < length (set t n l) = simp length-set (omega arith) in
     let e : take (n + 1 + 1) (set (set t n l) (n + 1) r) ≡ (take n t ++ (l ∷ [])) ++ (r ∷ []) =
-        take-more-set (set t n l) (n + 1) r inside ∙ ap (λ xs. xs ++ (r ∷ [])) (take-more-set t n l (omega arith)) in
+    take-more-set (set t n l) (n + 1) r inside ∙ ap (λ xs. xs ++ (r ∷ [])) (take-more-set t n l (omega arith)) in
     let a = ap (λ xs. occurs (xs ++ rs) i) e in
     let b = occurs-append ((take n t ++ (l ∷ [])) ++ (r ∷ [])) rs i in
     let c = occurs-append (take n t ++ (l ∷ [])) (r ∷ []) i in
@@ -85,7 +85,7 @@ module _ {E A S : Type 0} (k : Meaning E A S) (a : List (Cell E S)) (p : Pool) (
   pub pays-none : length a ≤ x → Pays k a p t (n + 1) a p t n
   pays-none past = record {
     each = λ rs arena. rerooted k a p (x ∷ (take n t ++ rs)) (first rs arena) (take n t ++ rs)
-      (λ i h. let o = hit-other x i (λ q. omega arith) in omega arith);
+        (λ i h. let o = hit-other x i (λ q. omega arith) in omega arith);
     takes = takes-refl a 0;
     size = owes .size;
     low = omega (arith, owes .low);
@@ -134,22 +134,22 @@ module _ {E A S : Type 0} (k : Meaning E A S) (a : List (Cell E S)) (p : Pool) (
         let r = lighter n (countAt a (c .right)) (countAt a x) (most + 1) (omega (arith, good .counts, good .right-light)) here in
         let in1 : n + 1 < length (set t n (c .left)) = simp length-set (omega (arith, owes .low, owes .size)) in
         ⊎-elim
-          (λ lt. let n1 : j ≢ n = omega arith in let n2 : j ≢ n + 1 = omega arith in
-            tapers-by j (getD t j 0) (getD-set-other (set t n (c .left)) (n + 1) j (c .right) 0 n2 ∙ getD-set-other t n j (c .left) 0 n1) (tapers-below j lt))
-          (λ ge. ⊎-elim
-            (λ e. let n2 : n ≢ n + 1 = omega arith in
-              subst (λ i. Levels i (countAt b (getD two i 0) + 1) (most + 1)) (sym e)
-                (tapers-by n (c .left) (getD-set-other (set t n (c .left)) (n + 1) n (c .right) 0 n2 ∙ getD-set-same t n (c .left) 0 inside) (l .0)))
-            (λ ne. let e : j ≡ n + 1 = omega arith in
-              subst (λ i. Levels i (countAt b (getD two i 0) + 1) (most + 1)) (sym e)
-                (tapers-by (n + 1) (c .right) (getD-set-same (set t n (c .left)) (n + 1) (c .right) 0 in1) (r .1)))
-            (cases-eq j n))
-          (cases-lt j n)
+        (λ lt. let n1 : j ≢ n = omega arith in let n2 : j ≢ n + 1 = omega arith in
+        tapers-by j (getD t j 0) (getD-set-other (set t n (c .left)) (n + 1) j (c .right) 0 n2 ∙ getD-set-other t n j (c .left) 0 n1) (tapers-below j lt))
+        (λ ge. ⊎-elim
+        (λ e. let n2 : n ≢ n + 1 = omega arith in
+        subst (λ i. Levels i (countAt b (getD two i 0) + 1) (most + 1)) (sym e)
+        (tapers-by n (c .left) (getD-set-other (set t n (c .left)) (n + 1) n (c .right) 0 n2 ∙ getD-set-same t n (c .left) 0 inside) (l .0)))
+        (λ ne. let e : j ≡ n + 1 = omega arith in
+        subst (λ i. Levels i (countAt b (getD two i 0) + 1) (most + 1)) (sym e)
+        (tapers-by (n + 1) (c .right) (getD-set-same (set t n (c .left)) (n + 1) (c .right) 0 in1) (r .1)))
+        (cases-eq j n))
+        (cases-lt j n)
 
     pub pays-last : freed ≡ true → Pays k a p t (n + 1) b q two (n + 1 + 1)
     pays-last e = record {
       each = λ rs arena. rerooted k b q (c .left ∷ c .right ∷ (take n t ++ rs)) (subst (λ f. Arena k b q (owing k f c (take n t ++ rs))) e (after rs arena))
-        (take (n + 1 + 1) two ++ rs) (λ i h. sym (occurs-two t n (c .left) (c .right) rs i (omega (arith, owes .low, owes .size))));
+          (take (n + 1 + 1) two ++ rs) (λ i h. sym (occurs-two t n (c .left) (c .right) rs i (omega (arith, owes .low, owes .size))));
       takes = gives .takes;
       size = length-set (set t n (c .left)) (n + 1) (c .right) ∙ length-set t n (c .left) ∙ owes .size;
       low = omega (arith, tapers-low b two (n + 1) tapers-two);
@@ -176,7 +176,7 @@ module _ {E A S : Type 0} (k : Meaning E A S) (a : List (Cell E S)) (p : Pool) (
     size = refl;
     low = omega arith;
     tapers = λ j h. let z : 0 ≡ j = omega arith in
-      subst (λ i. Levels i (countAt a (getD (set (replicate 64 0) 0 root) i 0) + 1) (most + 1)) z (levels-none (countAt a root + 1) (most + 1) (omega arith));
+        subst (λ i. Levels i (countAt a (getD (set (replicate 64 0) 0 root) i 0) + 1) (most + 1)) z (levels-none (countAt a root + 1) (most + 1) (omega arith));
   }
 
   module _ (b : List (Cell E S)) (q : Pool) (t : List ℕ) (top : ℕ) (paying : Paying k a p root b q t top) where

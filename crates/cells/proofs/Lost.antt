@@ -59,8 +59,11 @@ module _ {E A S : Type 0} (k : Meaning E A S) (a : List (Cell E S)) (p : Pool) (
 
   from-parent : (i : ℕ) (up : Parent a i) → Reached a rs (up .place) → Reached a rs i
   from-parent i up r = record {
-    root = r .root; among = r .among; path = r .path ++ (up .side ∷ []);
-    leads = follow-last a (r .root) (r .path) (up .side) (up .place) (up .cell) (r .leads) (up .at) ∙ up .is }
+    root = r .root;
+    among = r .among;
+    path = r .path ++ (up .side ∷ []);
+    leads = follow-last a (r .root) (r .path) (up .side) (up .place) (up .cell) (r .leads) (up .at) ∙ up .is;
+  }
 
   -- upwards counts grow, so that a root is found at last
   reached-in : (f i : ℕ) → biggest a < countAt a i + f → 0 < refsAt a i → Reached a rs i
@@ -72,12 +75,12 @@ module _ {E A S : Type 0} (k : Meaning E A S) (a : List (Cell E S)) (p : Pool) (
   reached-in (suc f) i h refs = ⊎-elim
       (λ l. record { root = i; among = l; path = []; leads = refl })
       (λ no. let n = arena .counts i (refs-in i (nth a i) refl refs) in
-             let up = named-parent a i (omega arith) in
-             let less = child-count (up .place) (up .cell) (up .side) (up .at) (up .live) in
-             let same = ap (countAt a) (up .is) in
-             let here = ap counted (up .at) in
-             let there = ap referred (up .at) in
-             from-parent i up (reached-in f (up .place) (omega arith) (omega (arith, up .live))))
+      let up = named-parent a i (omega arith) in
+      let less = child-count (up .place) (up .cell) (up .side) (up .at) (up .live) in
+      let same = ap (countAt a) (up .is) in
+      let here = ap counted (up .at) in
+      let there = ap referred (up .at) in
+      from-parent i up (reached-in f (up .place) (omega arith) (omega (arith, up .live))))
       (cases-lt 0 (occurs rs i))
 
   used-reached : (i : ℕ) → 0 < refsAt a i → Reached a rs i
@@ -93,11 +96,11 @@ module _ {E A S : Type 0} (k : Meaning E A S) (a : List (Cell E S)) (p : Pool) (
       let before = how-many n (omega arith) in
       let u = used-take a n (omega arith) in
       ⊎-elim
-        (λ l. let e : suc (used (take n a)) ≡ used (take (suc n) a) = omega arith in
-              subst (HowMany (Reached a rs) (suc n)) e (one (used-reached n l) before))
-        (λ z. let e : used (take n a) ≡ used (take (suc n) a) = omega arith in
-              subst (HowMany (Reached a rs) (suc n)) e (other (λ r. let l = reached-used n (omega arith) r in omega arith) before))
-        (cases-lt 0 (refsAt a n))
+      (λ l. let e : suc (used (take n a)) ≡ used (take (suc n) a) = omega arith in
+      subst (HowMany (Reached a rs) (suc n)) e (one (used-reached n l) before))
+      (λ z. let e : used (take n a) ≡ used (take (suc n) a) = omega arith in
+      subst (HowMany (Reached a rs) (suc n)) e (other (λ r. let l = reached-used n (omega arith) r in omega arith) before))
+      (cases-lt 0 (refsAt a n))
 
   pub none-lost : NoneLost k a p rs
   none-lost = record {

@@ -44,7 +44,7 @@ module _ {E A S : Type 0} (k : Meaning E A S) where
           let y = then (zs ++ rs) (next-arena rs arena) in
           record {
             arena = rerooted k c r (vs ++ (zs ++ rs)) (y .arena) (ws ++ rs)
-              (λ i h. let s = join i in omega (arith, occurs-append ws rs i, occurs-append vs (zs ++ rs) i, occurs-append zs rs i));
+                (λ i h. let s = join i in omega (arith, occurs-append ws rs i, occurs-append vs (zs ++ rs) i, occurs-append zs rs i));
             stay = λ z among. stays-trans a b c z (x .stay z among) (y .stay z (omega (arith, occurs-append zs rs z)));
             takes = takes-trans a b c m n (x .takes) (y .takes);
             free = omega (arith, x .free, y .free);

@@ -97,9 +97,9 @@ module _ {E S : Type 0} (c : Cell E S) (a : List (Cell E S)) (i : ℕ) (later : 
   parent-at (suc n) e h = ⊎-elim
       (λ q. record { place = 0; cell = c; at = refl; live = omega arith; side = false; is = sym q })
       (λ nl. ⊎-elim
-        (λ q. record { place = 0; cell = c; at = refl; live = omega arith; side = true; is = sym q })
-        (λ nr. after (later (omega (arith, hit-other (c .left) i nl, hit-other (c .right) i nr))))
-        (cases-eq i (c .right)))
+      (λ q. record { place = 0; cell = c; at = refl; live = omega arith; side = true; is = sym q })
+      (λ nr. after (later (omega (arith, hit-other (c .left) i nl, hit-other (c .right) i nr))))
+      (cases-eq i (c .right)))
       (cases-eq i (c .left))
 
 pub named-parent : {E S : Type 0} (a : List (Cell E S)) (i : ℕ) → 0 < links a i → Parent a i

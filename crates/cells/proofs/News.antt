@@ -55,12 +55,12 @@ counted-made a i f d rs at free one counts j within =
     let ld = links-live (d .refs) d j (omega arith) in
     let o = counts j (simp length-set at within) in
     ⊎-elim
-      (λ q. let h = ap (λ x. hit x j) (sym q) ∙ hit-same j in
-            let now = ap (refsAt (set a i d)) q ∙ ap referred (nth-set-same a i d (some-in a i f at)) in
-            let was = ap (refsAt a) q ∙ ap referred at in
-            omega arith)
-      (λ ne. let h = hit-other i j ne in let same = ap referred (nth-set-other a i j d ne) in omega arith)
-      (cases-eq j i)
+    (λ q. let h = ap (λ x. hit x j) (sym q) ∙ hit-same j in
+    let now = ap (refsAt (set a i d)) q ∙ ap referred (nth-set-same a i d (some-in a i f at)) in
+    let was = ap (refsAt a) q ∙ ap referred at in
+    omega arith)
+    (λ ne. let h = hit-other i j ne in let same = ap referred (nth-set-other a i j d ne) in omega arith)
+    (cases-eq j i)
 
 module _ {E A S : Type 0} (k : Meaning E A S) (laws : Laws k) (a : List (Cell E S)) (p : Pool) (left right : ℕ) (item : Item E S)
     (rs : List ℕ) (arena : Arena k a p (left ∷ right ∷ rs)) (fits : Fits k (tree a left) item (tree a right)) where
@@ -161,9 +161,9 @@ module _ {E A S : Type 0} (k : Meaning E A S) (laws : Laws k) (a : List (Cell E 
       new = p .head ∷ [];
       few = omega arith;
       old = λ i live. ⊎-elim
-        (λ e. inl (let h = ap (λ x. hit x i) (sym e) ∙ hit-same i in omega arith))
-        (λ ne. inr (remained k a (p .head) f at d i ne live))
-        (cases-eq i (p .head));
+          (λ e. inl (let h = ap (λ x. hit x i) (sym e) ∙ hit-same i in omega arith))
+          (λ ne. inr (remained k a (p .head) f at d i ne live))
+          (cases-eq i (p .head));
     }
 
     pub made : Yields k false a p rs b q (p .head) (node l e r) 1
@@ -196,7 +196,7 @@ module _ {E A S : Type 0} (k : Meaning E A S) (laws : Laws k) (a : List (Cell E 
       let s1 = s-is (joins-right sr sr-is) in
       let t1 = t-is (joins-left sl sr s sr-is s1 sl-is) in
       subst (λ x. Yields k false a p rs x (record { head = f .left; free = p .free - 1 }) (p .head) (node l e r) 1) (sym b-is)
-        (made some (cl + 1 + cr) t (omega arith) (summary-is sl sr s t sr-is s1 sl-is t1) f at)
+      (made some (cl + 1 + cr) t (omega arith) (summary-is sl sr s t sr-is s1 sl-is t1) f at)
 
   pub counts-fit : (cl cr : ℕ) → cl ≡ countAt a left → cr ≡ countAt a right → cl + 1 + cr < 2 ^ 32
   counts-fit cl cr el er = omega (arith, fits .few, left-known .counts, right-known .counts)

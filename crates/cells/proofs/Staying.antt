@@ -38,7 +38,13 @@ alike-trans None (Some x) q h g = absurd h
 alike-trans (Some c) None q h g = absurd h
 alike-trans (Some c) (Some x) None h g = absurd g
 alike-trans (Some c) (Some x) (Some y) h g = record {
-  element = h .element ∙ g .element; own = h .own ∙ g .own; left = h .left ∙ g .left; right = h .right ∙ g .right; count = h .count ∙ g .count; summary = h .summary ∙ g .summary }
+  element = h .element ∙ g .element;
+  own = h .own ∙ g .own;
+  left = h .left ∙ g .left;
+  right = h .right ∙ g .right;
+  count = h .count ∙ g .count;
+  summary = h .summary ∙ g .summary;
+}
 
 alike-child : {E S : Type 0} (side : Bool) (i : ℕ) (o p : Option (Cell E S)) → Alike o p → child side i o ≡ child side i p
 alike-child side i None None h = refl
@@ -67,7 +73,7 @@ follow-same a b r (side ∷ path) stays =
 pub stays-trans : {E S : Type 0} (a b c : List (Cell E S)) (r : ℕ) → Stays a b r → Stays b c r → Stays a c r
 stays-trans a b c r ab bc path =
     alike-trans (nth a (follow a r path)) (nth b (follow a r path)) (nth c (follow a r path)) (ab path)
-      (subst (λ i. Alike (nth b i) (nth c i)) (sym (follow-same a b r path ab)) (bc path))
+    (subst (λ i. Alike (nth b i) (nth c i)) (sym (follow-same a b r path ab)) (bc path))
 
 pub stays-sym : {E S : Type 0} (a b : List (Cell E S)) (r : ℕ) → Stays a b r → Stays b a r
 stays-sym a b r ab path =
@@ -124,12 +130,12 @@ takes-trans a b c m n s t = record {
   new = t .new ++ s .new;
   few = omega (arith, length-append (t .new) (s .new), s .few, t .few);
   old = λ i live. ⊎-elim
-    (λ h. inl (omega (arith, occurs-append (t .new) (s .new) i)))
-    (λ r. ⊎-elim
+      (λ h. inl (omega (arith, occurs-append (t .new) (s .new) i)))
+      (λ r. ⊎-elim
       (λ h. inl (omega (arith, occurs-append (t .new) (s .new) i)))
       (λ q. inr (remains-trans c b a i r q))
       (s .old i (r .live)))
-    (t .old i live);
+      (t .old i live);
 }
 
 pub takes-more : {E S : Type 0} (a b : List (Cell E S)) (m n : ℕ) → m ≤ n → Takes a b m → Takes a b n

@@ -31,7 +31,7 @@ module _ {E A S : Type 0} (k : Meaning E A S) (cells : List (Cell E S)) (sound :
   empty g i (Some c) e b live = let good = sound i c e live in absurd (omega (arith, good .counts))
 
   step : (f g : ℕ) → ((i : ℕ) → countAt cells i ≤ f → countAt cells i ≤ g → Live cells i → treeTo f cells i ≡ treeTo g cells i)
-    → (i : ℕ) (o : Option (Cell E S)) → nth cells i ≡ o → counted o ≤ suc f → counted o ≤ suc g → linked o → around o (treeTo f cells) ≡ around o (treeTo g cells)
+      → (i : ℕ) (o : Option (Cell E S)) → nth cells i ≡ o → counted o ≤ suc f → counted o ≤ suc g → linked o → around o (treeTo f cells) ≡ around o (treeTo g cells)
   step f g ih i None e a b live = refl
   step f g ih i (Some c) e a b live =
       let good = sound i c e live in

@@ -67,7 +67,8 @@ module _ {E A S : Type 0} (k : Meaning E A S) (a : List (Cell E S)) (i : ℕ) (c
   remains-recounted same more j live = ⊎-elim
       (λ q. subst (Remains a b) (sym q) (record {
         alike = subst (λ o. Alike o (nth b i)) (sym at) (subst (Alike (Some c)) (sym here) same);
-        live = subst linked (sym here) more }))
+        live = subst linked (sym here) more;
+      }))
       (λ ne. remains-elsewhere j ne live)
       (cases-eq j i)
 
@@ -79,7 +80,8 @@ module _ {E A S : Type 0} (k : Meaning E A S) (a : List (Cell E S)) (i : ℕ) (c
   remained-recounted same was j live = ⊎-elim
       (λ q. subst (Remains b a) (sym q) (record {
         alike = subst (λ o. Alike (nth b i) o) (sym at) (subst (λ o. Alike o (Some c)) (sym here) same);
-        live = subst linked (sym at) was }))
+        live = subst linked (sym at) was;
+      }))
       (λ ne. remained j ne live)
       (cases-eq j i)
 
@@ -93,12 +95,12 @@ module _ {E A S : Type 0} (k : Meaning E A S) (a : List (Cell E S)) (i : ℕ) (c
       → ((j : ℕ) (f : Cell E S) → nth a j ≡ Some f → 0 < f .refs → j ≢ i → Stays a b j × Live b (f .left) × Live b (f .right)) → Sound k b
   sound-by sound new old j f e live = ⊎-elim
       (λ q. let fd : Some d ≡ Some f = sym here ∙ ap (nth b) (sym q) ∙ e in
-            let df : d ≡ f = cc in
-            let is : Good k b i d = new (let r = ap (λ x. x .refs) df in omega arith) in
-            subst (λ n. Good k b n f) (sym q) (subst (Good k b i) df is))
+      let df : d ≡ f = cc in
+      let is : Good k b i d = new (let r = ap (λ x. x .refs) df in omega arith) in
+      subst (λ n. Good k b n f) (sym q) (subst (Good k b i) df is))
       (λ ne. let ea : nth a j ≡ Some f = sym (elsewhere j ne) ∙ e in
-             let o = old j f ea live ne in
-             good-stays k a b j f f ea (same-refl f) (o .0) (o .1) (o .2) (sound j f ea live))
+      let o = old j f ea live ne in
+      good-stays k a b j f f ea (same-refl f) (o .0) (o .1) (o .2) (sound j f ea live))
       (cases-eq j i)
 
   sound-remaining : Sound k a → ((j : ℕ) → Live a j → Remains a b j) → (0 < d .refs → Good k b i d) → Sound k b
@@ -110,7 +112,7 @@ module _ {E A S : Type 0} (k : Meaning E A S) (a : List (Cell E S)) (i : ℕ) (c
       let remains = remains-recounted same more in
       let good = sound i c at was in
       sound-remaining sound remains (λ _. good-stays k a b i c d at same (remains-stays k a sound b remains i (subst linked (sym at) was))
-        (remains (c .left) (good .left-live) .live) (remains (c .right) (good .right-live) .live) good)
+      (remains (c .left) (good .left-live) .live) (remains (c .right) (good .right-live) .live) good)
 
   -- no path leads to a cell that nothing names
   past : (r : ℕ) (path : List Bool) → Sound k a → Live a r → links a i ≡ 0 → r ≢ i → follow a r path ≢ i
@@ -127,10 +129,11 @@ module _ {E A S : Type 0} (k : Meaning E A S) (a : List (Cell E S)) (i : ℕ) (c
   pub sound-freed : Sound k a → links a i ≡ 0 → d .refs ≡ 0 → Sound k b
   sound-freed sound none free = sound-by sound (λ h. absurd (omega arith)) (λ j f e live ne.
       let good = sound j f e live in
-      let l : (side : Bool) → child side j (Some f) ≢ i = λ side q. let n = child-named a j f side e live in let m = ap (links a) q in omega arith in
-      (stays-freed sound none j (subst linked (sym e) live) ne,
-       subst linked (sym (elsewhere (f .left) (l false))) (good .left-live),
-       subst linked (sym (elsewhere (f .right) (l true))) (good .right-live)))
+      let l : (side : Bool) → child side j (Some f) ≢ i = λ side q. let n = child-named a j f side e live in let m = ap (links a) q in omega arith in (
+        stays-freed sound none j (subst linked (sym e) live) ne,
+        subst linked (sym (elsewhere (f .left) (l false))) (good .left-live),
+        subst linked (sym (elsewhere (f .right) (l true))) (good .right-live),
+      ))
 
   -- a new cell over two trees
   tree-at : (n : ℕ) → d .count ≡ suc n → tree b i ≡ node (treeTo n b (d .left)) (d .element) (treeTo n b (d .right))
@@ -182,6 +185,6 @@ module _ {E S : Type 0} (a : List (Cell E S)) (i : ℕ) (d : Cell E S) where
       nth-set-other a i h d ne ∙ p
   chain-kept c at live (suc n) h p =
       let ne : h ≢ i = λ e.
-        let s : Some (p .0) ≡ Some c = sym (p .1) ∙ ap (nth a) e ∙ at in
-        let r : p .0 .refs ≡ c .refs = cc in omega (arith, p .2) in
+      let s : Some (p .0) ≡ Some c = sym (p .1) ∙ ap (nth a) e ∙ at in
+      let r : p .0 .refs ≡ c .refs = cc in omega (arith, p .2) in
       (p .0, nth-set-other a i h d ne ∙ p .1, p .2, chain-kept c at live n (p .0 .left) (p .3))

@@ -9,8 +9,11 @@ ghost use Rattle.cells.specs.References.{Arena};
 ghost use Rattle.cells.specs.Moves.{Fits, Yields};
 use crate::cell::Cell;
 use crate::item::Item;
+use crate::owning::put;
 use crate::pool::Pool;
-use crate::read::{cell_at, count_at, put, summary_at};
+use crate::read::cell_at;
+use crate::read::count_at;
+use crate::read::summary_at;
 use kinds::Kind;
 
 // Takes a free cell and puts the item between the trees of two owned roots; the cell owns them from then on, and its
@@ -28,7 +31,7 @@ pub fn make<K: Kind>(
     requires some { ⌜ 0 < now pool .free ⌝ }
     ensures yields { λ r. ⌜ ((rs : List ℕ) → Arena (meaning (now (kind .entry))) (now (cells .entry)) (now (pool .entry)) (left ∷ right ∷ rs)
         → Yields (meaning (now (kind .entry))) false (now (cells .entry)) (now (pool .entry)) rs (now (cells .exit)) (now (pool .exit)) r
-            (node (tree (now (cells .entry)) left) (item .element) (tree (now (cells .entry)) right)) 1) ⌝ }
+        (node (tree (now (cells .entry)) left) (item .element) (tree (now (cells .entry)) right)) 1) ⌝ }
     ensures taken { λ _. ⌜ now (pool .exit) .free + 1 ≡ now (pool .entry) .free ⌝ }
 {
     let i = pool.head;
@@ -36,7 +39,19 @@ pub fn make<K: Kind>(
     let behind = kind.join(item.own, summary_at(kind, cells, right));
     let summary = kind.join(summary_at(kind, cells, left), behind);
     let taken = cell_at(cells, i);
-    put(cells, i, Cell { element: item.element, own: item.own, left, right, count, summary, refs: 1 });
+    put(
+        cells,
+        i,
+        Cell {
+            element: item.element,
+            own: item.own,
+            left,
+            right,
+            count,
+            summary,
+            refs: 1,
+        },
+    );
     pool.head = taken.left;
     pool.free -= 1;
     i

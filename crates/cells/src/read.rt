@@ -1,7 +1,7 @@
 // Reading a cell, and what a link tells: of none the count is 0 and the summary empty.
 ghost use mathlib.Core.Path.{_≡_};
 ghost use Prim.Native.Nat.{_<_};
-ghost use lib.ListN.{length, set};
+ghost use lib.ListN.{length};
 ghost use Rattle.std.specs.Finite.{nth};
 ghost use Rattle.std.specs.declared.option.Option.the-variants.{Some};
 ghost use Rattle.cells.specs.Cells.{countAt, sumAt};
@@ -15,19 +15,12 @@ pub fn cell_at<E: Copy, S: Copy>(cells: &[Cell<E, S>], i: u32) -> Cell<E, S>
     cells[i as usize]
 }
 
-pub fn put<E: Copy, S: Copy>(cells: &mut [Cell<E, S>], i: u32, cell: Cell<E, S>)
-    requires { ⌜ i < length (now cells) ⌝ }
-    ensures { λ _. ⌜ now (cells .exit) ≡ set (now (cells .entry)) i cell ⌝ }
-{
-    cells[i as usize] = cell;
-}
-
 // How many elements lie under a link.
 pub fn count_at<E: Copy, S: Copy>(cells: &[Cell<E, S>], i: u32) -> u32
     ensures { λ r. ⌜ r ≡ countAt (now (cells .entry)) i ⌝ }
 {
     if (i as usize) < cells.len() {
-        cells[i as usize].count
+        cell_at(cells, i).count
     } else {
         0
     }
@@ -38,7 +31,7 @@ pub fn summary_at<K: Kind>(kind: &K, cells: &[Cell<K::Element, K::Summary>], i: 
     ensures { λ r. ⌜ r ≡ sumAt (meaning (now (kind .entry))) (now (cells .entry)) i ⌝ }
 {
     if (i as usize) < cells.len() {
-        cells[i as usize].summary
+        cell_at(cells, i).summary
     } else {
         kind.empty()
     }

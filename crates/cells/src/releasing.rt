@@ -13,7 +13,13 @@ use crate::read::cell_at;
 use kinds::Kind;
 
 // Gives up the topmost link of the table; where that frees a cell, its children's links come in its place.
-fn pay<K: Kind>(kind: &K, cells: &mut [Cell<K::Element, K::Summary>], pool: &mut Pool, owed: &mut [u32; 64], top: usize) -> usize
+fn pay<K: Kind>(
+    kind: &K,
+    cells: &mut [Cell<K::Element, K::Summary>],
+    pool: &mut Pool,
+    owed: &mut [u32; 64],
+    top: usize,
+) -> usize
     requires owes { ⌜ Owes (meaning (now kind)) (now cells) (now pool) (now owed) top ⌝ }
     requires some { ⌜ 0 < top ⌝ }
     ensures { λ r. ⌜ Pays (meaning (now (kind .entry))) (now (cells .entry)) (now (pool .entry)) (now (owed .entry)) top (now (cells .exit)) (now (pool .exit)) (now (owed .exit)) r ⌝ }
@@ -34,7 +40,12 @@ fn pay<K: Kind>(kind: &K, cells: &mut [Cell<K::Element, K::Summary>], pool: &mut
 }
 
 // Gives the root back, and with it every cell that no other owned root reaches.
-pub fn release<K: Kind>(kind: &K, cells: &mut [Cell<K::Element, K::Summary>], pool: &mut Pool, root: u32)
+pub fn release<K: Kind>(
+    kind: &K,
+    cells: &mut [Cell<K::Element, K::Summary>],
+    pool: &mut Pool,
+    root: u32,
+)
     requires owned { ⌜ ((rs : List ℕ) × Arena (meaning (now kind)) (now cells) (now pool) (root ∷ rs)) ⌝ }
     requires few { ⌜ countAt (now cells) root ≤ most ⌝ }
     ensures { λ _. ⌜ ((rs : List ℕ) → Arena (meaning (now (kind .entry))) (now (cells .entry)) (now (pool .entry)) (root ∷ rs)

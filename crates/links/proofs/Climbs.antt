@@ -51,7 +51,7 @@ module _ {E S : Type 0} (flip : Bool) (a : List (Cell E S)) (top : ℕ) where
   unfolding climbed
   climbed-more n u = refl
 
-  climbed-none : (u : Tree E) → climbed flip a top 0 u ≡ u
+  pub climbed-none : (u : Tree E) → climbed flip a top 0 u ≡ u
   unfolding climbed
   climbed-none u = refl
 
@@ -124,7 +124,7 @@ module _ {E A S : Type 0} (k : Meaning E A S) (flip : Bool) (a : List (Cell E S)
         record {
           left = omega (arith, climbing .left);
           each = subst (λ n. Moves k a p (low ∷ top ∷ []) c o (r ∷ top ∷ []) n) cost
-            (moves-then k a p (low ∷ top ∷ []) b q (x ∷ top ∷ []) (3 * (all - suc m)) (now .each) (x ∷ []) (top ∷ []) (λ j. omega arith) c o (r ∷ []) 3 (λ rs ar. raise rs ar .moved) (r ∷ top ∷ []) (λ j. omega arith));
+              (moves-then k a p (low ∷ top ∷ []) b q (x ∷ top ∷ []) (3 * (all - suc m)) (now .each) (x ∷ []) (top ∷ []) (λ j. omega arith) c o (r ∷ []) 3 (λ rs ar. raise rs ar .moved) (r ∷ top ∷ []) (λ j. omega arith));
           stays = stays-trans a b c top (climbing .stays) (raise (top ∷ holds .rest) held .moved .stay top (let h = hit-same top in omega arith));
           same = ap (climbed flip a top m) tree ∙ sym (climbed-more flip a top m (seen flip b x)) ∙ now .same;
           sits = subst (Climbs k flip a top m) (sym tree) (sits-now .1);

@@ -6,3 +6,6 @@ pub mod Turns
 pub mod Raises
 pub mod Climbs
 pub mod Sinks
+pub mod Levels
+pub mod Hangs
+pub mod Wholes

@@ -73,13 +73,13 @@ module _ {E A S : Type 0} (k : Meaning E A S) (flip : Bool) (a : List (Cell E S)
       pub opens : Opens k flip a i d (record { near = x; item = record { element = c .element; own = c .own }; far = y })
       opens = record {
         each = λ q rs arena.
-          moves-then k a q [] b q (x ∷ []) 0 (one .each q) [] (x ∷ []) (λ j. omega arith) d q (y ∷ []) 0 (two .each q) (x ∷ y ∷ []) (λ j. omega arith) (i ∷ rs) arena;
+            moves-then k a q [] b q (x ∷ []) 0 (one .each q) [] (x ∷ []) (λ j. omega arith) d q (y ∷ []) 0 (two .each q) (x ∷ y ∷ []) (λ j. omega arith) (i ∷ rs) arena;
         tree-is =
-          let nx = seen-stays flip a b x (one .here p (i ∷ holds .rest) (holds .arena)) in
-          let nb = seen-stays flip b d x (two .each p (x ∷ i ∷ holds .rest) held .stay x (let h = hit-same x in omega arith)) in
-          let fs = seen-stays flip a b (far flip c) (far-stays flip a b i c at here-stays) in
-          let fd = seen-stays flip b d y (two .here p (x ∷ i ∷ holds .rest) held) in
-          let o = seen-opened k flip a (holds .arena .sound) i c at live in
-          cc;
+            let nx = seen-stays flip a b x (one .here p (i ∷ holds .rest) (holds .arena)) in
+            let nb = seen-stays flip b d x (two .each p (x ∷ i ∷ holds .rest) held .stay x (let h = hit-same x in omega arith)) in
+            let fs = seen-stays flip a b (far flip c) (far-stays flip a b i c at here-stays) in
+            let fd = seen-stays flip b d y (two .here p (x ∷ i ∷ holds .rest) held) in
+            let o = seen-opened k flip a (holds .arena .sound) i c at live in
+            cc;
         whole = whole-item;
       }

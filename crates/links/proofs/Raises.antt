@@ -31,7 +31,7 @@ pub above-live : {E A S : Type 0} (k : Meaning E A S) (a : List (Cell E S)) (p :
 above-live k a p low i n above =
     let r = above .reached in
     subst (Live a) (r .leads) (reached-live k a (above .arena .sound) (r .root) (r .path)
-      (rooted k a p (low ∷ above .rest) (above .arena) (r .root) (omega (arith, r .among))))
+    (rooted k a p (low ∷ above .rest) (above .arena) (r .root) (omega (arith, r .among))))
 
 module _ {E A S : Type 0} (k : Meaning E A S) (flip : Bool) (a : List (Cell E S)) (p : Pool) (low i : ℕ) (above : Above k a p low i (2 ^ 26))
     (c : Cell E S) (at : nth a i ≡ Some c) where
@@ -77,7 +77,7 @@ module _ {E A S : Type 0} (k : Meaning E A S) (flip : Bool) (a : List (Cell E S)
       pub raises : (rs : List ℕ) → Arena k a p (low ∷ rs) → Yields k flip a p rs d q r (raised (seen flip a low) (seen flip a i)) 3
       raises rs arena =
           let first : Moves k a p (low ∷ []) b p (low ∷ y ∷ []) 0 =
-                moves-then k a p (low ∷ []) a p (low ∷ []) 0 (moves-none k a p (low ∷ [])) [] (low ∷ []) (λ j. omega arith) b p (y ∷ []) 0 (one .each p) (low ∷ y ∷ []) (λ j. omega arith) in
+          moves-then k a p (low ∷ []) a p (low ∷ []) 0 (moves-none k a p (low ∷ [])) [] (low ∷ []) (λ j. omega arith) b p (y ∷ []) 0 (one .each p) (low ∷ y ∷ []) (λ j. omega arith) in
           record {
             moved = moves-then k a p (low ∷ []) b p (low ∷ y ∷ []) 0 first (low ∷ y ∷ []) [] (λ j. omega arith) d q (r ∷ []) 3 (λ rs ar. two rs ar .moved) (r ∷ []) (λ j. omega arith) rs arena;
             tree-is = two (above .rest) both .tree-is ∙ sym same-tree;

@@ -37,9 +37,13 @@ module _ {E A S : Type 0} (k : Meaning E A S) where
 
   pub sits-fits : (l : Tree E) (item : Item E S) (r : Tree E) → Sits k (node l (item .element) r) → Whole k item → Fits k l item r
   sits-fits l item r s w = record {
-    lawful = w .lawful; owns = w .owns;
-    left-light = s .balanced .left-light; right-light = s .balanced .right-light;
-    few = omega (arith, s .few); short = s .short }
+    lawful = w .lawful;
+    owns = w .owns;
+    left-light = s .balanced .left-light;
+    right-light = s .balanced .right-light;
+    few = omega (arith, s .few);
+    short = s .short;
+  }
 
 module _ {E A S : Type 0} (k : Meaning E A S) (flip : Bool) (a : List (Cell E S)) (p : Pool) (x y z : ℕ) (top item : Item E S)
     (rest : List ℕ) (arena : Arena k a p (x ∷ y ∷ z ∷ rest)) where

@@ -26,7 +26,7 @@ use Rattle.links.specs.Climbing.{descent, Tabled, Sunk}
 use Rattle.links.proofs.Sides.{seen-known, seen-opened, near-live}
 use Rattle.links.proofs.Twice.{seen-inside}
 
-near-child : {E S : Type 0} (flip : Bool) (i : ℕ) (c : Cell E S) → near flip c ≡ child flip i (Some c)
+pub near-child : {E S : Type 0} (flip : Bool) (i : ℕ) (c : Cell E S) → near flip c ≡ child flip i (Some c)
 near-child false i c = refl
 near-child true i c = refl
 
@@ -135,9 +135,9 @@ module _ {E A S : Type 0} (k : Meaning E A S) (flip : Bool) (a : List (Cell E S)
           are = row-by (λ j i. i ≡ descent flip a top j) (sinking .are) (sinking .x-is);
           inside = row-by (λ j i. i < length a) (sinking .inside) (x-inside t);
           passed = λ j h. ⊎-elim
-            (λ e. subst (λ i. Δ * weight L < weight (seen flip a (descent flip a top i))) (sym e) (subst (λ i. Δ * weight L < weight (seen flip a i)) (sinking .x-is) (heavy t)))
-            (λ ne. sinking .passed j (omega arith))
-            (cases-eq j n);
+              (λ e. subst (λ i. Δ * weight L < weight (seen flip a (descent flip a top i))) (sym e) (subst (λ i. Δ * weight L < weight (seen flip a i)) (sinking .x-is) (heavy t)))
+              (λ ne. sinking .passed j (omega arith))
+              (cases-eq j n);
           x-is = next-is;
           live = y-live;
           few = omega (arith, lighter, sinking .few);

@@ -180,6 +180,6 @@ module _ {E A S : Type 0} (k : Meaning E A S) (flip : Bool) (a : List (Cell E S)
             pub rotated-twice : (rs : List ℕ) → Arena k a p (x ∷ y ∷ z ∷ rs) → Yields k flip a p rs b5 q5 t (rotatedTwice X (top .element) Y (item .element) Z) 3
             rotated-twice rs ar = record {
               moved = moves-then k a p (x ∷ y ∷ z ∷ []) b4 q4 (t ∷ y ∷ []) 3 move-4 (y ∷ []) (t ∷ []) (λ i. omega arith)
-                b5 q5 [] 0 (λ rs ar. four rs ar .moved) (t ∷ []) (λ i. omega arith) rs ar;
+                  b5 q5 [] 0 (λ rs ar. four rs ar .moved) (t ∷ []) (λ i. omega arith) rs ar;
               tree-is = seen-stays flip b4 b5 t (four (t ∷ rest) arena-4 .moved .stay t (let h = hit-same t in omega arith)) ∙ t-is;
             }

@@ -9,25 +9,47 @@ ghost use Rattle.cells.specs.References.{Arena, Holds};
 ghost use Rattle.cells.specs.Moves.{Yields};
 ghost use Rattle.links.specs.Sitting.{Sits};
 ghost use Rattle.links.specs.Climbing.{raised, climbed, Climbs, Tabled, Above, Raises};
-use cells::{Cell, Item, Pool, cell_at, retain};
 use crate::facing::far_of;
 use crate::rebalancing::rebalance;
+use cells::Cell;
+use cells::Item;
+use cells::Pool;
+use cells::cell_at;
+use cells::retain;
 use kinds::Kind;
 
 // The tree under the cell `i` with the tree of `low` in the place of its near child.
-pub fn raise<K: Kind>(kind: &K, cells: &mut [Cell<K::Element, K::Summary>], pool: &mut Pool, flip: bool, low: u32, i: u32) -> u32
+pub fn raise<K: Kind>(
+    kind: &K,
+    cells: &mut [Cell<K::Element, K::Summary>],
+    pool: &mut Pool,
+    flip: bool,
+    low: u32,
+    i: u32,
+) -> u32
     requires above { ⌜ Above (meaning (now kind)) (now cells) (now pool) low i (2 ^ 26) ⌝ }
     requires inside { ⌜ i < length (now cells) ⌝ }
     requires sits { ⌜ Sits (meaning (now kind)) (raised (seen flip (now cells) low) (seen flip (now cells) i)) ⌝ }
     requires some { ⌜ 3 ≤ now pool .free ⌝ }
     ensures { λ r. ⌜ ((rs : List ℕ) → Arena (meaning (now (kind .entry))) (now (cells .entry)) (now (pool .entry)) (low ∷ rs)
         → Yields (meaning (now (kind .entry))) flip (now (cells .entry)) (now (pool .entry)) rs (now (cells .exit)) (now (pool .exit)) r
-            (raised (seen flip (now (cells .entry)) low) (seen flip (now (cells .entry)) i)) 3) ⌝ }
+        (raised (seen flip (now (cells .entry)) low) (seen flip (now (cells .entry)) i)) 3) ⌝ }
 {
     let c = cell_at(cells, i);
     let far = far_of(flip, c);
     retain(kind, cells, far);
-    rebalance(kind, cells, pool, flip, low, Item { element: c.element, own: c.own }, far)
+    rebalance(
+        kind,
+        cells,
+        pool,
+        flip,
+        low,
+        Item {
+            element: c.element,
+            own: c.own,
+        },
+        far,
+    )
 }
 
 // Up from `low` through the cells of the table, the last first, to the top of the tree of `right`.

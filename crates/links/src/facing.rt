@@ -6,7 +6,10 @@ ghost use Rattle.balance.specs.Trees.{node};
 ghost use Rattle.cells.specs.Cells.{seen, near, far};
 ghost use Rattle.cells.specs.References.{Arena};
 ghost use Rattle.cells.specs.Moves.{Fits, Yields};
-use cells::{Cell, Item, Pool, make};
+use cells::Cell;
+use cells::Item;
+use cells::Pool;
+use cells::make;
 use kinds::Kind;
 
 // The child seen on the left.
@@ -38,7 +41,7 @@ pub fn make_facing<K: Kind>(
     requires some { ⌜ 0 < now pool .free ⌝ }
     ensures yields { λ r. ⌜ ((rs : List ℕ) → Arena (meaning (now (kind .entry))) (now (cells .entry)) (now (pool .entry)) (left ∷ right ∷ rs)
         → Yields (meaning (now (kind .entry))) flip (now (cells .entry)) (now (pool .entry)) rs (now (cells .exit)) (now (pool .exit)) r
-            (node (seen flip (now (cells .entry)) left) (item .element) (seen flip (now (cells .entry)) right)) 1) ⌝ }
+        (node (seen flip (now (cells .entry)) left) (item .element) (seen flip (now (cells .entry)) right)) 1) ⌝ }
     ensures taken { λ _. ⌜ now (pool .exit) .free + 1 ≡ now (pool .entry) .free ⌝ }
 {
     if flip {

@@ -3,10 +3,12 @@
 mod climbing;
 mod facing;
 mod foot;
+mod hanging;
+mod linking;
 mod opening;
 mod parts;
 mod rebalancing;
 mod rotating;
 mod sinking;
 
-pub use parts::Parts;
+pub use linking::link;

@@ -6,13 +6,22 @@ ghost use lib.ListN.{length};
 ghost use Rattle.cells.specs.declared.pool.Pool.{Pool};
 ghost use Rattle.cells.specs.References.{Holds};
 ghost use Rattle.links.specs.Opened.{Opens};
-use cells::{Cell, Item, cell_at, retain};
-use crate::facing::{far_of, near_of};
+use crate::facing::far_of;
+use crate::facing::near_of;
 use crate::parts::Parts;
+use cells::Cell;
+use cells::Item;
+use cells::cell_at;
+use cells::retain;
 use kinds::Kind;
 
 // The parts of the owned cell `i`, both children owned.
-pub fn open<K: Kind>(kind: &K, cells: &mut [Cell<K::Element, K::Summary>], flip: bool, i: u32) -> Parts<K::Element, K::Summary>
+pub fn open<K: Kind>(
+    kind: &K,
+    cells: &mut [Cell<K::Element, K::Summary>],
+    flip: bool,
+    i: u32,
+) -> Parts<K::Element, K::Summary>
     requires holds { ⌜ ((p : Pool) × Holds (meaning (now kind)) (now cells) p (i ∷ []) (2 ^ 29)) ⌝ }
     requires inside { ⌜ i < length (now cells) ⌝ }
     ensures { λ r. ⌜ Opens (meaning (now (kind .entry))) flip (now (cells .entry)) i (now (cells .exit)) r ⌝ }
@@ -22,5 +31,12 @@ pub fn open<K: Kind>(kind: &K, cells: &mut [Cell<K::Element, K::Summary>], flip:
     let far = far_of(flip, c);
     retain(kind, cells, near);
     retain(kind, cells, far);
-    Parts { near, item: Item { element: c.element, own: c.own }, far }
+    Parts {
+        near,
+        item: Item {
+            element: c.element,
+            own: c.own,
+        },
+        far,
+    }
 }

@@ -1,4 +1,5 @@
-use cells::{Item, ItemClone};
+use cells::Item;
+use cells::ItemClone;
 
 // A cell taken apart: what it holds, and its children as seen from one side.
 #[derive(Clone, Copy)]

@@ -9,12 +9,18 @@ ghost use Rattle.cells.specs.References.{Arena, Holds};
 ghost use Rattle.cells.specs.Moves.{Yields};
 ghost use Rattle.links.specs.Opened.{Whole};
 ghost use Rattle.links.specs.Sitting.{Sits};
-use balance::{outweighs, rotates_once};
-use cells::{Cell, Item, Pool, count_at, release};
 use crate::facing::make_facing;
 use crate::opening::open;
 use crate::parts::Parts;
-use crate::rotating::{rotate_once, rotate_twice};
+use crate::rotating::rotate_once;
+use crate::rotating::rotate_twice;
+use balance::outweighs;
+use balance::rotates_once;
+use cells::Cell;
+use cells::Item;
+use cells::Pool;
+use cells::count_at;
+use cells::release;
 use kinds::Kind;
 
 // One rotation or two, of a tree that is taken apart already.
@@ -33,7 +39,7 @@ pub fn rotate<K: Kind>(
     requires some { ⌜ 3 ≤ now pool .free ⌝ }
     ensures { λ r. ⌜ ((rs : List ℕ) → Arena (meaning (now (kind .entry))) (now (cells .entry)) (now (pool .entry)) (parts .near ∷ parts .far ∷ right ∷ rs)
         → Yields (meaning (now (kind .entry))) flip (now (cells .entry)) (now (pool .entry)) rs (now (cells .exit)) (now (pool .exit)) r
-            (rotated (node (seen flip (now (cells .entry)) (parts .near)) (parts .item .element) (seen flip (now (cells .entry)) (parts .far))) (item .element) (seen flip (now (cells .entry)) right)) 3) ⌝ }
+        (rotated (node (seen flip (now (cells .entry)) (parts .near)) (parts .item .element) (seen flip (now (cells .entry)) (parts .far))) (item .element) (seen flip (now (cells .entry)) right)) 3) ⌝ }
 {
     let inner = count_at(cells, parts.far) + 1;
     let outer = count_at(cells, parts.near) + 1;
@@ -59,7 +65,7 @@ pub fn rebalance<K: Kind>(
     requires some { ⌜ 3 ≤ now pool .free ⌝ }
     ensures { λ r. ⌜ ((rs : List ℕ) → Arena (meaning (now (kind .entry))) (now (cells .entry)) (now (pool .entry)) (left ∷ right ∷ rs)
         → Yields (meaning (now (kind .entry))) flip (now (cells .entry)) (now (pool .entry)) rs (now (cells .exit)) (now (pool .exit)) r
-            (rebalanced (seen flip (now (cells .entry)) left) (item .element) (seen flip (now (cells .entry)) right)) 3) ⌝ }
+        (rebalanced (seen flip (now (cells .entry)) left) (item .element) (seen flip (now (cells .entry)) right)) 3) ⌝ }
 {
     let heavy = count_at(cells, left) + 1;
     let light = count_at(cells, right) + 1;

@@ -10,10 +10,13 @@ ghost use Rattle.cells.specs.References.{Arena, Holds};
 ghost use Rattle.cells.specs.Moves.{Yields};
 ghost use Rattle.links.specs.Opened.{Whole};
 ghost use Rattle.links.specs.Sitting.{Sits};
-use cells::{Cell, Item, Pool, release};
 use crate::facing::make_facing;
 use crate::opening::open;
 use crate::parts::Parts;
+use cells::Cell;
+use cells::Item;
+use cells::Pool;
+use cells::release;
 use kinds::Kind;
 
 // The near child, then the parts' item, over the far child, the item and the right tree.
@@ -32,7 +35,7 @@ pub fn rotate_once<K: Kind>(
     requires some { ⌜ 2 ≤ now pool .free ⌝ }
     ensures { λ r. ⌜ ((rs : List ℕ) → Arena (meaning (now (kind .entry))) (now (cells .entry)) (now (pool .entry)) (parts .near ∷ parts .far ∷ right ∷ rs)
         → Yields (meaning (now (kind .entry))) flip (now (cells .entry)) (now (pool .entry)) rs (now (cells .exit)) (now (pool .exit)) r
-            (node (seen flip (now (cells .entry)) (parts .near)) (parts .item .element) (node (seen flip (now (cells .entry)) (parts .far)) (item .element) (seen flip (now (cells .entry)) right))) 2) ⌝ }
+        (node (seen flip (now (cells .entry)) (parts .near)) (parts .item .element) (node (seen flip (now (cells .entry)) (parts .far)) (item .element) (seen flip (now (cells .entry)) right))) 2) ⌝ }
 {
     let low = make_facing(kind, cells, pool, flip, parts.far, item, right);
     make_facing(kind, cells, pool, flip, parts.near, parts.item, low)
@@ -56,7 +59,7 @@ pub fn rotate_twice<K: Kind>(
     requires some { ⌜ 3 ≤ now pool .free ⌝ }
     ensures { λ r. ⌜ ((rs : List ℕ) → Arena (meaning (now (kind .entry))) (now (cells .entry)) (now (pool .entry)) (parts .near ∷ parts .far ∷ right ∷ rs)
         → Yields (meaning (now (kind .entry))) flip (now (cells .entry)) (now (pool .entry)) rs (now (cells .exit)) (now (pool .exit)) r
-            (rotatedTwice (seen flip (now (cells .entry)) (parts .near)) (parts .item .element) (seen flip (now (cells .entry)) (parts .far)) (item .element) (seen flip (now (cells .entry)) right)) 3) ⌝ }
+        (rotatedTwice (seen flip (now (cells .entry)) (parts .near)) (parts .item .element) (seen flip (now (cells .entry)) (parts .far)) (item .element) (seen flip (now (cells .entry)) right)) 3) ⌝ }
 {
     let inner = open(kind, cells, flip, parts.far);
     let first = make_facing(kind, cells, pool, flip, parts.near, parts.item, inner.near);

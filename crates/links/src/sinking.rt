@@ -6,10 +6,12 @@ ghost use Rattle.balance.specs.Links.{spine};
 ghost use Rattle.balance.specs.Levels.{most, deepest};
 ghost use Rattle.cells.specs.Cells.{countAt, seen, Live, Sound};
 ghost use Rattle.links.specs.Climbing.{Sunk};
-use balance::outweighs;
-use cells::{Cell, cell_at, count_at};
 use crate::facing::near_of;
 use crate::foot::Foot;
+use balance::outweighs;
+use cells::Cell;
+use cells::cell_at;
+use cells::count_at;
 use kinds::Kind;
 
 // From the tree of `right` down while it outweighs that of `left`. The table takes the numbers of the cells passed.

@@ -7,13 +7,13 @@ use Rattle.cells.proofs.making.make.Needs as need
 pub add-count : need.add-count
 add-count g c =
     let fit = counts-fit (g .K·Kind .meaning (c .args .kind .now)) (g .K·Kind .laws (c .args .kind .now)) (c .args .cells .now) (c .args .pool .now) (c .args .left) (c .args .right) (c .args .item)
-      (c .pre .owned .0) (c .pre .owned .1) (c .pre .fits) (c .count-at .result) _ (c .count-at .ensures) refl in
+    (c .pre .owned .0) (c .pre .owned .1) (c .pre .fits) (c .count-at .result) _ (c .count-at .ensures) refl in
     omega arith
 
 pub add-count-2 : need.add-count-2
 add-count-2 g c =
     let fit = counts-fit (g .K·Kind .meaning (c .args .kind .now)) (g .K·Kind .laws (c .args .kind .now)) (c .args .cells .now) (c .args .pool .now) (c .args .left) (c .args .right) (c .args .item)
-      (c .pre .owned .0) (c .pre .owned .1) (c .pre .fits) (c .count-at .result) (c .count-at-2 .result) (c .count-at .ensures) (c .count-at-2 .ensures) in
+    (c .pre .owned .0) (c .pre .owned .1) (c .pre .fits) (c .count-at .result) (c .count-at-2 .result) (c .count-at .ensures) (c .count-at-2 .ensures) in
     omega arith
 
 pub cell-at-taken-requires : need.cell-at-taken-requires
@@ -27,7 +27,7 @@ put-requires g c κs =
 pub returns : need.returns
 returns g c = record {
   yields = λ rs arena.
-    made-by (g .K·Kind .meaning (c .args .kind .now)) (g .K·Kind .laws (c .args .kind .now)) (c .args .cells .now) (c .args .pool .now) (c .args .left) (c .args .right) (c .args .item)
+      made-by (g .K·Kind .meaning (c .args .kind .now)) (g .K·Kind .laws (c .args .kind .now)) (c .args .cells .now) (c .args .pool .now) (c .args .left) (c .args .right) (c .args .item)
       rs arena (c .pre .fits) (c .pre .some)
       (c .count-at .result) (c .count-at-2 .result) (c .summary-at .result) (c .join-behind .result) (c .summary-at-2 .result) (c .join-summary .result) (c .cell-at-taken .result) (c .put .last .cells)
       (c .count-at .ensures) (c .count-at-2 .ensures) (c .summary-at .ensures) (c .join-behind .ensures) (c .summary-at-2 .ensures) (c .join-summary .ensures) (c .cell-at-taken .ensures) (c .put .ensures);

@@ -17,9 +17,9 @@ give-up-freed-requires g c κs = record {
 pub returns-then-not-freed : need.returns-then-not-freed
 returns-then-not-freed g c =
     topmost-one (g .K·Kind .meaning (c .args .kind .now)) (c .args .cells .now) (c .args .pool .now) (c .args .owed .now) (c .args .top) (c .args .top - 1) (omega (arith, c .pre .some)) (c .pre .owes)
-      (c .cell-at-c .result) (c .cell-at-c .ensures) (c .give-up-freed .last .cells) (c .give-up-freed .last .pool) (c .give-up-freed .result) (c .give-up-freed .ensures) (c .if-not-freed .taken)
+    (c .cell-at-c .result) (c .cell-at-c .ensures) (c .give-up-freed .last .cells) (c .give-up-freed .last .pool) (c .give-up-freed .result) (c .give-up-freed .ensures) (c .if-not-freed .taken)
 
 pub returns : need.returns
 returns g c =
     topmost-last (g .K·Kind .meaning (c .args .kind .now)) (c .args .cells .now) (c .args .pool .now) (c .args .owed .now) (c .args .top) (c .args .top - 1) (omega (arith, c .pre .some)) (c .pre .owes)
-      (c .cell-at-c .result) (c .cell-at-c .ensures) (c .give-up-freed .last .cells) (c .give-up-freed .last .pool) (c .give-up-freed .result) (c .give-up-freed .ensures) (c .if-not-freed .left)
+    (c .cell-at-c .result) (c .cell-at-c .ensures) (c .give-up-freed .last .cells) (c .give-up-freed .last .pool) (c .give-up-freed .result) (c .give-up-freed .ensures) (c .if-not-freed .left)

@@ -16,7 +16,7 @@ loop-top-less g c = c .pay-top .ensures .falls
 pub loop-top-again : need.loop-top-again
 loop-top-again g c =
     paying-more (g .K·Kind .meaning (c .args .kind .now)) (c .args .cells .now) (c .args .pool .now) (c .args .root) (c .loop-top .cells) (c .loop-top .pool) (c .loop-top .owed) (c .loop-top .top) (c .loop-top .inv)
-      (c .pay-top .last .cells) (c .pay-top .last .pool) (c .pay-top .last .owed) (c .pay-top .result) (c .pay-top .ensures)
+    (c .pay-top .last .cells) (c .pay-top .last .pool) (c .pay-top .last .owed) (c .pay-top .result) (c .pay-top .ensures)
 
 pub returns : need.returns
 returns g c =

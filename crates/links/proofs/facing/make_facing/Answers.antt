@@ -11,13 +11,13 @@ make-requires g c κs = record {
 pub returns-then-flip : need.returns-then-flip
 returns-then-flip g c = record {
   yields = yields-flipped (g .K·Kind .meaning (c .args .kind .now)) (c .args .flip) (c .args .cells .now) (c .args .pool .now) (c .args .left) (c .args .item) (c .args .right)
-    (c .make .last .cells) (c .make .last .pool) (c .make .result) (c .if-flip .taken) (c .make .ensures .yields);
+      (c .make .last .cells) (c .make .last .pool) (c .make .result) (c .if-flip .taken) (c .make .ensures .yields);
   taken = c .make .ensures .taken;
 }
 
 pub returns : need.returns
 returns g c = record {
   yields = yields-plain (g .K·Kind .meaning (c .args .kind .now)) (c .args .flip) (c .args .cells .now) (c .args .pool .now) (c .args .left) (c .args .item) (c .args .right)
-    (c .make-2 .last .cells) (c .make-2 .last .pool) (c .make-2 .result) (c .if-flip .left) (c .make-2 .ensures .yields);
+      (c .make-2 .last .cells) (c .make-2 .last .pool) (c .make-2 .result) (c .if-flip .left) (c .make-2 .ensures .yields);
   taken = c .make-2 .ensures .taken;
 }
