@@ -134,31 +134,17 @@ module _ {E A S : Type 0} (k : Meaning E A S) (a : List (Cell E S)) (p : Pool) (
         let r = lighter n (countAt a (c .right)) (countAt a x) (most + 1) (omega (arith, good .counts, good .right-light)) here in
         let in1 : n + 1 < length (set t n (c .left)) = simp length-set (omega (arith, owes .low, owes .size)) in
         ⊎-elim
-<<<<<<< HEAD
-          (λ lt. let apart : j ≢ n = omega arith in let beyond : j ≢ n + 1 = omega arith in
-            tapers-by j (getD t j 0) (getD-set-other (set t n (c .left)) (n + 1) j (c .right) 0 beyond ∙ getD-set-other t n j (c .left) 0 apart) (tapers-below j lt))
-          (λ ge. ⊎-elim
-            (λ e. let beyond : n ≢ n + 1 = omega arith in
-              subst (λ i. Levels i (countAt b (getD two i 0) + 1) (most + 1)) (sym e)
-                (tapers-by n (c .left) (getD-set-other (set t n (c .left)) (n + 1) n (c .right) 0 beyond ∙ getD-set-same t n (c .left) 0 inside) (l .0)))
-            (λ ne. let e : j ≡ n + 1 = omega arith in
-              subst (λ i. Levels i (countAt b (getD two i 0) + 1) (most + 1)) (sym e)
-                (tapers-by (n + 1) (c .right) (getD-set-same (set t n (c .left)) (n + 1) (c .right) 0 in1) (r .1)))
-            (cases-eq j n))
-          (cases-lt j n)
-=======
-        (λ lt. let n1 : j ≢ n = omega arith in let n2 : j ≢ n + 1 = omega arith in
-        tapers-by j (getD t j 0) (getD-set-other (set t n (c .left)) (n + 1) j (c .right) 0 n2 ∙ getD-set-other t n j (c .left) 0 n1) (tapers-below j lt))
+        (λ lt. let apart : j ≢ n = omega arith in let beyond : j ≢ n + 1 = omega arith in
+        tapers-by j (getD t j 0) (getD-set-other (set t n (c .left)) (n + 1) j (c .right) 0 beyond ∙ getD-set-other t n j (c .left) 0 apart) (tapers-below j lt))
         (λ ge. ⊎-elim
-        (λ e. let n2 : n ≢ n + 1 = omega arith in
+        (λ e. let beyond : n ≢ n + 1 = omega arith in
         subst (λ i. Levels i (countAt b (getD two i 0) + 1) (most + 1)) (sym e)
-        (tapers-by n (c .left) (getD-set-other (set t n (c .left)) (n + 1) n (c .right) 0 n2 ∙ getD-set-same t n (c .left) 0 inside) (l .0)))
+        (tapers-by n (c .left) (getD-set-other (set t n (c .left)) (n + 1) n (c .right) 0 beyond ∙ getD-set-same t n (c .left) 0 inside) (l .0)))
         (λ ne. let e : j ≡ n + 1 = omega arith in
         subst (λ i. Levels i (countAt b (getD two i 0) + 1) (most + 1)) (sym e)
         (tapers-by (n + 1) (c .right) (getD-set-same (set t n (c .left)) (n + 1) (c .right) 0 in1) (r .1)))
         (cases-eq j n))
         (cases-lt j n)
->>>>>>> 122ed7a8be4c7e8a6a16480b05609d1ef8814fac
 
     pub pays-last : freed ≡ true → Pays k a p t (n + 1) b q two (n + 1 + 1)
     pays-last e = record {

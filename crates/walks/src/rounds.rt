@@ -1,5 +1,5 @@
-// Going through the elements of a range in order. From an element to the next the cursor goes up and down its table, two
-// steps an element all in all.
+// Going through the elements of a range in order. Each cell is put into the cursor's table once and taken out once, so no
+// element is searched for from the root again.
 ghost use Prim.Native.Nat.{_+_, _<_, _≤_};
 ghost use lib.ListN.{length, take};
 ghost use Rattle.std.specs.Options.{Cases as BySome};
