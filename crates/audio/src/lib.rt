@@ -1,4 +1,6 @@
 // Audio elements: stretches of a reel, summarised by their levels.
+#![tactic(auto)]
+
 mod clip;
 mod kind;
 mod levels;

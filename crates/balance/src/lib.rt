@@ -1,5 +1,7 @@
 // Weight-balanced trees: what they are, what is done with them, and the laws of both, in specs/. The trees themselves
 // are kept in cells by crates above; here stand the two tests by which every link goes, and the laws by name.
+#![tactic(auto)]
+
 ghost use Rattle.std.specs.Prelude.{◌≡◌, ◌*◌, nat_lt};
 ghost use Rattle.balance.specs.Trees.{Δ, Γ};
 ghost use Rattle.balance.specs.Laws.{ListLaws, LinkLaws, WayLaws, AimLaws, OrderLaws, BalanceLaws, CostLaws, LoopLaws};

@@ -1,5 +1,7 @@
 // Trees in cells. The caller lends a slice of cells; versions of a list share them, and a cell counts the links that name
 // it. What is reached from an owned root is never written; what none reaches is free, and used again.
+#![tactic(auto)]
+
 mod cell;
 mod item;
 mod making;

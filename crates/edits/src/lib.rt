@@ -1,5 +1,7 @@
 // What edits do with the lists of a track, over cells: an element by itself, putting in, copying and cutting out. The roots
 // that are asked of are lent: they stay owned, and their lists stay. What is made is the caller's.
+#![tactic(auto)]
+
 mod editing;
 mod removal;
 

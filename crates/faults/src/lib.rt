@@ -1,5 +1,7 @@
 // The refusals of the editing core, each with its number. A fault of a lower layer is carried whole inside that of the
 // layer above: a kind's cause inside a session's fault, and that inside a script's.
+#![tactic(auto)]
+
 mod causes;
 mod reel;
 mod script;

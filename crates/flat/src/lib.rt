@@ -1,5 +1,7 @@
 // The flat sequence: what a session means, as plain lists. The definitions stand in specs/; the
 // functions here are the conditions that need no list, and promises names what is proved of them.
+#![tactic(auto)]
+
 ghost use Rattle.std.specs.Prelude.{◌≡◌};
 ghost use Rattle.flat.specs.Refusals.{empty_range_fault, few_cells_fault};
 

@@ -1,5 +1,7 @@
 // Kinds of element: all that the trees know of a subject (audio, tempo). A kind names its element and
 // its summary, and says by ghost members what they mean.
+#![tactic(auto)]
+
 mod kind;
 mod tally;
 

@@ -1,4 +1,6 @@
 // Profiles: an element of any kind surveyed in columns, and what is shown of audio.
+#![tactic(auto)]
+
 mod columns;
 mod fault;
 mod pile;

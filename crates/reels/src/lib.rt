@@ -1,5 +1,7 @@
 // Reels: finite lists of 16-bit samples, and layers over them. Nothing is stored: a sample is
 // computed when it is asked for, one by one or a block at a time.
+#![tactic(auto)]
+
 mod gain;
 mod joined;
 mod mulaw;

@@ -1,5 +1,7 @@
 // The work on whole reels as C functions, for the benchmark: the levels of a pile of layers, and all
 // of it written out as bytes. Bytes that are refused as a reel count as a reel of no samples.
+#![tactic(auto)]
+
 mod entries;
 mod summary;
 mod whole;

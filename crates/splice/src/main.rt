@@ -1,4 +1,6 @@
 // splice: pieces of a reel as a track, a range of it moved, and the waveform of the result, drawn from the tree.
+#![tactic(auto)]
+
 mod options;
 
 use anyhow::anyhow;

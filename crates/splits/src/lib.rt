@@ -1,5 +1,7 @@
 // Taking trees over cells apart at places, and putting them together: all by links, over the tables that a walk filled.
 // The tree that is taken apart stays as it is; what is made shares its cells.
+#![tactic(auto)]
+
 mod joining;
 mod loosening;
 mod parting;

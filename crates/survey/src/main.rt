@@ -1,4 +1,6 @@
 // survey: length, levels and waveform of a reel, through layers, and its samples as raw PCM.
+#![tactic(auto)]
+
 mod options;
 
 use anyhow::anyhow;

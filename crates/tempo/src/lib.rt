@@ -1,4 +1,6 @@
 // Tempo elements: stretches of ticks at one tempo, summarised by their length in time.
+#![tactic(auto)]
+
 mod beats;
 mod kind;
 mod span;

@@ -1,4 +1,6 @@
 // Tracks: pieces laid one behind the other as a balanced tree over lent cells; ranges taken out and put in; columns of a tree.
+#![tactic(auto)]
+
 mod columns;
 mod laying;
 mod moving;

@@ -1,5 +1,7 @@
 // Tests alone: published values, and the edges of each rule worked out by hand. What the rules say
 // of every input is proved in the crates below; here their answers are seen.
+#![tactic(auto)]
+
 #[cfg(test)]
 mod byte_reels;
 #[cfg(test)]

@@ -1,5 +1,7 @@
 // Walks over trees in cells: to a place, to a tally, over a range. They read the lent cells and change none. A walk is a
 // loop; what it passed stands in tables of cell numbers.
+#![tactic(auto)]
+
 mod answers;
 mod cursor;
 mod look;
