@@ -9,7 +9,7 @@ const BLOCK: usize = 512;
 // Writes the samples from `start` on as bytes, two each, the low byte first: as many as there are
 // and fit, and says how many; the bytes beyond stay as found.
 pub fn write_out<R: Reel>(reel: &R, start: u32, out: &mut [u8]) -> usize
-    ensures { Written (samples reel.now) start out.old out.new result }
+    ensures { Written (R.samples reel.now) start out.old out.new result }
 {
     let mut scratch = [0i16; BLOCK];
     let mut done = 0;
@@ -29,7 +29,7 @@ pub fn write_out<R: Reel>(reel: &R, start: u32, out: &mut [u8]) -> usize
 
 // The same, for as many as fit the scratch block.
 fn write_block<R: Reel>(reel: &R, start: u32, scratch: &mut [i16; BLOCK], out: &mut [u8]) -> usize
-    ensures { WrittenBlock 512 (samples reel.now) start out.old out.new result }
+    ensures { WrittenBlock 512 (R.samples reel.now) start out.old out.new result }
 {
     let most = (out.len() / 2).min(BLOCK);
     let n = reel.copy_to(start, &mut scratch[0..most]);

@@ -20,11 +20,11 @@ loop-i-preserved c =
     let s : to_z w16 (of_z w16 (get_or c.args.block.now c.loop-i.i (pos 0))) ≡ get_or c.args.block.now c.loop-i.i (pos 0) = to_z-of_z w16 _ f in
     let lf : SFits w16 c.min-low.result = search rules in
     let hf : SFits w16 c.max-high.result = search rules in
-    let clipped : c.at-end-clipped.result ≡ count_at_end (get_or c.args.block.now c.loop-i.i (pos 0)) = c.at-end-clipped.ensures ∙ ap count_at_end s in
+    let clipped : c.at_end-clipped.result ≡ count_at_end (get_or c.args.block.now c.loop-i.i (pos 0)) = c.at_end-clipped.ensures ∙ ap count_at_end s in
     let sum = total (audio xs) (take i xs) in (
       to_z-of_z w16 c.min-low.result lf ∙ c.min-low.ensures.value ∙ ap (λ v. int_min v (to_z w16 (of_z w16 (get_or xs i (pos 0))))) c.loop-i.invariant.0 ∙ ap (int_min sum.low) s ∙ sym (ap (λ l. l.low) m),
       to_z-of_z w16 c.max-high.result hf ∙ c.max-high.ensures.value ∙ ap (λ v. int_max v (to_z w16 (of_z w16 (get_or xs i (pos 0))))) c.loop-i.invariant.1 ∙ ap (int_max sum.high) s ∙ sym (ap (λ l. l.high) m),
-      ap (λ n. n + c.at-end-clipped.result) c.loop-i.invariant.2 ∙ ap (λ n. (total (audio xs) (take i xs)).clipped + n) clipped ∙ sym (ap (λ l. l.clipped) m),
+      ap (λ n. n + c.at_end-clipped.result) c.loop-i.invariant.2 ∙ ap (λ n. (total (audio xs) (take i xs)).clipped + n) clipped ∙ sym (ap (λ l. l.clipped) m),
       omega (arith, at_end_le (get_or xs i (pos 0)), clipped, c.loop-i.invariant.3),
     )
 

@@ -8,12 +8,12 @@ use Rattle.audio.specs.Audio.{audio}
 use Rattle.audio.proofs.Sums.{same_total, stretch_end, stretch_fits}
 use Rattle.audio.proofs.measure.measure_block.Goals as goal
 
-pub levels-of-requires : goal.levels-of-requires
-levels-of-requires g c =
+pub levels_of-requires : goal.levels_of-requires
+levels_of-requires g c =
     let samples = g.R.Reel.samples c.args.reel.now in
-    let n = c.copy-to-n.result in
-    let copied = c.copy-to-n.ensures in
-    let read = read_back samples c.args.start _ c.copy-to-n.new.block (drop c.min-most.result c.args.scratch.now) n copied in
+    let n = c.copy_to-n.result in
+    let copied = c.copy_to-n.ensures in
+    let read = read_back samples c.args.start _ c.copy_to-n.new.block (drop c.min-most.result c.args.scratch.now) n copied in
     let long : length (take (c.min-most.result - 0) c.args.scratch.now) ≡ c.min-most.result = simp length-take (omega (arith, c.told-scratch)) in
     let few = length_stretch samples c.args.start n (omega (arith, copied.count)) in
     simp sub-zero (rw read (record {
@@ -24,9 +24,9 @@ levels-of-requires g c =
 pub returns : goal.returns
 returns g c =
     let samples = g.R.Reel.samples c.args.reel.now in
-    let n = c.copy-to-n.result in
-    let copied = c.copy-to-n.ensures in
-    let read = read_back samples c.args.start _ c.copy-to-n.new.block (drop c.min-most.result c.args.scratch.now) n copied in
+    let n = c.copy_to-n.result in
+    let copied = c.copy_to-n.ensures in
+    let read = read_back samples c.args.start _ c.copy_to-n.new.block (drop c.min-most.result c.args.scratch.now) n copied in
     let long : length (take (c.min-most.result - 0) c.args.scratch.now) ≡ c.min-most.result = simp length-take (omega (arith, c.told-scratch)) in
-    (simp sub-zero at c.levels-of.ensures) ∙ ap (λ v. total (audio v) v) read ∙ same_total (stretch samples c.args.start n) samples (stretch samples c.args.start n)
+    (simp sub-zero at c.levels_of.ensures) ∙ ap (λ v. total (audio v) v) read ∙ same_total (stretch samples c.args.start n) samples (stretch samples c.args.start n)
     ∙ ap (total (audio samples)) (stretch_end samples c.args.start n (min c.args.frames 512) (omega (arith, copied.count, long)))

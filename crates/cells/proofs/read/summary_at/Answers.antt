@@ -5,7 +5,7 @@ use Rattle.cells.proofs.read.summary_at.Goals as goal
 
 pub returns-then-i-cells : goal.returns-then-i-cells
 returns-then-i-cells g c =
-    sym (ap (summed (g.K.Kind.meaning c.args.kind.now)) c.cell-at.ensures)
+    sym (ap (summed (g.K.Kind.meaning c.args.kind.now)) c.cell_at.ensures)
 
 pub returns-else-i-cells : goal.returns-else-i-cells
 returns-else-i-cells g c =

@@ -6,8 +6,8 @@ pub returns-then-link-cells : goal.returns-then-link-cells
 returns-then-link-cells g c =
     topmost_none (g.K.Kind.meaning c.args.kind.now) c.args.cells.now c.args.pool.now c.args.owed.now c.args.top (c.args.top - 1) (omega (arith, c.requires.some)) c.requires.owes c.if-link-cells.true
 
-pub give-up-freed-requires : goal.give-up-freed-requires
-give-up-freed-requires g c = record {
+pub give_up-freed-requires : goal.give_up-freed-requires
+give_up-freed-requires g c = record {
   inside = c.if-link-cells.false;
   owned = topmost_owned (g.K.Kind.meaning c.args.kind.now) c.args.cells.now c.args.pool.now c.args.owed.now c.args.top (c.args.top - 1) (omega (arith, c.requires.some)) c.requires.owes;
 }
@@ -15,9 +15,9 @@ give-up-freed-requires g c = record {
 pub returns-then-not-freed : goal.returns-then-not-freed
 returns-then-not-freed g c =
     topmost_one (g.K.Kind.meaning c.args.kind.now) c.args.cells.now c.args.pool.now c.args.owed.now c.args.top (c.args.top - 1) (omega (arith, c.requires.some)) c.requires.owes
-    c.cell-at-c.result c.cell-at-c.ensures c.give-up-freed.new.cells c.give-up-freed.new.pool c.give-up-freed.result c.give-up-freed.ensures c.if-not-freed.true
+    c.cell_at-c.result c.cell_at-c.ensures c.give_up-freed.new.cells c.give_up-freed.new.pool c.give_up-freed.result c.give_up-freed.ensures c.if-not-freed.true
 
 pub returns : goal.returns
 returns g c =
     topmost_last (g.K.Kind.meaning c.args.kind.now) c.args.cells.now c.args.pool.now c.args.owed.now c.args.top (c.args.top - 1) (omega (arith, c.requires.some)) c.requires.owes
-    c.cell-at-c.result c.cell-at-c.ensures c.give-up-freed.new.cells c.give-up-freed.new.pool c.give-up-freed.result c.give-up-freed.ensures c.if-not-freed.false
+    c.cell_at-c.result c.cell_at-c.ensures c.give_up-freed.new.cells c.give_up-freed.new.pool c.give_up-freed.result c.give_up-freed.ensures c.if-not-freed.false

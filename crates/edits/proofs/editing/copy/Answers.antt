@@ -16,8 +16,8 @@ release-requires g c = record {
   few = before_few (g.K.Kind.meaning c.args.kind.now) (g.K.Kind.laws c.args.kind.now) c.args.cells.now c.args.pool.now c.args.root c.args.from c.args.len c.requires.owns c.requires.few c.part-first.new.cells c.part-first.new.pool c.part-first.result c.part-first.ensures.splits;
 }
 
-pub part-rest-second-requires : goal.part-rest-second-requires
-part-rest-second-requires g c = record {
+pub part_rest-second-requires : goal.part_rest-second-requires
+part_rest-second-requires g c = record {
   owns = second_owns (g.K.Kind.meaning c.args.kind.now) (g.K.Kind.laws c.args.kind.now) c.args.cells.now c.args.pool.now c.args.root c.args.from c.args.len c.requires.owns c.requires.few c.part-first.new.cells c.part-first.new.pool c.part-first.result c.part-first.ensures.splits c.release.new.cells c.release.new.pool c.release.ensures;
   tied = c.part-first.ensures.splits.tied;
   few = second_few (g.K.Kind.meaning c.args.kind.now) (g.K.Kind.laws c.args.kind.now) c.args.cells.now c.args.pool.now c.args.root c.args.from c.args.len c.requires.owns c.requires.few c.part-first.new.cells c.part-first.new.pool c.part-first.result c.part-first.ensures.splits c.release.new.cells c.release.new.pool c.release.ensures;
@@ -25,11 +25,11 @@ part-rest-second-requires g c = record {
   some = second_some (g.K.Kind.meaning c.args.kind.now) (g.K.Kind.laws c.args.kind.now) c.args.cells.now c.args.pool.now c.args.root c.args.from c.args.len c.requires.owns c.requires.few c.part-first.new.cells c.part-first.new.pool c.part-first.result c.part-first.ensures.splits c.release.new.cells c.release.new.pool c.release.ensures c.requires.some;
 }
 
-pub let-go-requires : goal.let-go-requires
-let-go-requires g c = record {
-  owns = last_owns (g.K.Kind.meaning c.args.kind.now) (g.K.Kind.laws c.args.kind.now) c.args.cells.now c.args.pool.now c.args.root c.args.from c.args.len c.requires.owns c.requires.few c.part-first.new.cells c.part-first.new.pool c.part-first.result c.part-first.ensures.splits c.release.new.cells c.release.new.pool c.release.ensures c.part-rest-second.new.cells c.part-rest-second.new.pool c.part-rest-second.result c.part-rest-second.ensures.splits;
-  few = last_few (g.K.Kind.meaning c.args.kind.now) (g.K.Kind.laws c.args.kind.now) c.args.cells.now c.args.pool.now c.args.root c.args.from c.args.len c.requires.owns c.requires.few c.part-first.new.cells c.part-first.new.pool c.part-first.result c.part-first.ensures.splits c.release.new.cells c.release.new.pool c.release.ensures c.part-rest-second.new.cells c.part-rest-second.new.pool c.part-rest-second.result c.part-rest-second.ensures.splits;
+pub let_go-requires : goal.let_go-requires
+let_go-requires g c = record {
+  owns = last_owns (g.K.Kind.meaning c.args.kind.now) (g.K.Kind.laws c.args.kind.now) c.args.cells.now c.args.pool.now c.args.root c.args.from c.args.len c.requires.owns c.requires.few c.part-first.new.cells c.part-first.new.pool c.part-first.result c.part-first.ensures.splits c.release.new.cells c.release.new.pool c.release.ensures c.part_rest-second.new.cells c.part_rest-second.new.pool c.part_rest-second.result c.part_rest-second.ensures.splits;
+  few = last_few (g.K.Kind.meaning c.args.kind.now) (g.K.Kind.laws c.args.kind.now) c.args.cells.now c.args.pool.now c.args.root c.args.from c.args.len c.requires.owns c.requires.few c.part-first.new.cells c.part-first.new.pool c.part-first.result c.part-first.ensures.splits c.release.new.cells c.release.new.pool c.release.ensures c.part_rest-second.new.cells c.part_rest-second.new.pool c.part_rest-second.result c.part_rest-second.ensures.splits;
 }
 
 pub returns : goal.returns
-returns g c = copies (g.K.Kind.meaning c.args.kind.now) (g.K.Kind.laws c.args.kind.now) c.args.cells.now c.args.pool.now c.args.root c.args.from c.args.len c.requires.owns c.requires.few c.part-first.new.cells c.part-first.new.pool c.part-first.result c.part-first.ensures.splits c.release.new.cells c.release.new.pool c.release.ensures c.part-rest-second.new.cells c.part-rest-second.new.pool c.part-rest-second.result c.part-rest-second.ensures.splits c.let-go.new.cells c.let-go.new.pool c.let-go.ensures
+returns g c = copies (g.K.Kind.meaning c.args.kind.now) (g.K.Kind.laws c.args.kind.now) c.args.cells.now c.args.pool.now c.args.root c.args.from c.args.len c.requires.owns c.requires.few c.part-first.new.cells c.part-first.new.pool c.part-first.result c.part-first.ensures.splits c.release.new.cells c.release.new.pool c.release.ensures c.part_rest-second.new.cells c.part_rest-second.new.pool c.part_rest-second.result c.part_rest-second.ensures.splits c.let_go.new.cells c.let_go.new.pool c.let_go.ensures

@@ -9,8 +9,8 @@ part-first-requires g c = record {
   some = first_some (g.K.Kind.meaning c.args.kind.now) (g.K.Kind.laws c.args.kind.now) c.args.cells.now c.args.pool.now c.args.root c.args.from c.args.len c.requires.owns c.requires.few (omega (arith, c.requires.some));
 }
 
-pub part-rest-second-requires : goal.part-rest-second-requires
-part-rest-second-requires g c = record {
+pub part_rest-second-requires : goal.part_rest-second-requires
+part_rest-second-requires g c = record {
   owns = rest_owns (g.K.Kind.meaning c.args.kind.now) (g.K.Kind.laws c.args.kind.now) c.args.cells.now c.args.pool.now c.args.root c.args.from c.args.len c.requires.owns c.requires.few c.part-first.new.cells c.part-first.new.pool c.part-first.result c.part-first.ensures.splits;
   tied = c.part-first.ensures.splits.tied;
   few = rest_few (g.K.Kind.meaning c.args.kind.now) (g.K.Kind.laws c.args.kind.now) c.args.cells.now c.args.pool.now c.args.root c.args.from c.args.len c.requires.owns c.requires.few c.part-first.new.cells c.part-first.new.pool c.part-first.result c.part-first.ensures.splits;
@@ -20,12 +20,12 @@ part-rest-second-requires g c = record {
 
 pub join-left-requires : goal.join-left-requires
 join-left-requires g c = record {
-  owns = join_owns (g.K.Kind.meaning c.args.kind.now) (g.K.Kind.laws c.args.kind.now) c.args.cells.now c.args.pool.now c.args.root c.args.from c.args.len c.requires.owns c.requires.few c.part-first.new.cells c.part-first.new.pool c.part-first.result c.part-first.ensures.splits c.part-rest-second.new.cells c.part-rest-second.new.pool c.part-rest-second.result c.part-rest-second.ensures.splits;
-  tied = c.part-rest-second.ensures.splits.tied;
-  few = join_few (g.K.Kind.meaning c.args.kind.now) (g.K.Kind.laws c.args.kind.now) c.args.cells.now c.args.pool.now c.args.root c.args.from c.args.len c.requires.owns c.requires.few c.part-first.new.cells c.part-first.new.pool c.part-first.result c.part-first.ensures.splits c.part-rest-second.new.cells c.part-rest-second.new.pool c.part-rest-second.result c.part-rest-second.ensures.splits;
-  short = join_short (g.K.Kind.meaning c.args.kind.now) (g.K.Kind.laws c.args.kind.now) c.args.cells.now c.args.pool.now c.args.root c.args.from c.args.len c.requires.owns c.requires.few c.part-first.new.cells c.part-first.new.pool c.part-first.result c.part-first.ensures.splits c.part-rest-second.new.cells c.part-rest-second.new.pool c.part-rest-second.result c.part-rest-second.ensures.splits;
-  some = join_some (g.K.Kind.meaning c.args.kind.now) (g.K.Kind.laws c.args.kind.now) c.args.cells.now c.args.pool.now c.args.root c.args.from c.args.len c.requires.owns c.requires.few c.part-first.new.cells c.part-first.new.pool c.part-first.result c.part-first.ensures.splits c.part-rest-second.new.cells c.part-rest-second.new.pool c.part-rest-second.result c.part-rest-second.ensures.splits c.requires.some;
+  owns = join_owns (g.K.Kind.meaning c.args.kind.now) (g.K.Kind.laws c.args.kind.now) c.args.cells.now c.args.pool.now c.args.root c.args.from c.args.len c.requires.owns c.requires.few c.part-first.new.cells c.part-first.new.pool c.part-first.result c.part-first.ensures.splits c.part_rest-second.new.cells c.part_rest-second.new.pool c.part_rest-second.result c.part_rest-second.ensures.splits;
+  tied = c.part_rest-second.ensures.splits.tied;
+  few = join_few (g.K.Kind.meaning c.args.kind.now) (g.K.Kind.laws c.args.kind.now) c.args.cells.now c.args.pool.now c.args.root c.args.from c.args.len c.requires.owns c.requires.few c.part-first.new.cells c.part-first.new.pool c.part-first.result c.part-first.ensures.splits c.part_rest-second.new.cells c.part_rest-second.new.pool c.part_rest-second.result c.part_rest-second.ensures.splits;
+  short = join_short (g.K.Kind.meaning c.args.kind.now) (g.K.Kind.laws c.args.kind.now) c.args.cells.now c.args.pool.now c.args.root c.args.from c.args.len c.requires.owns c.requires.few c.part-first.new.cells c.part-first.new.pool c.part-first.result c.part-first.ensures.splits c.part_rest-second.new.cells c.part_rest-second.new.pool c.part_rest-second.result c.part_rest-second.ensures.splits;
+  some = join_some (g.K.Kind.meaning c.args.kind.now) (g.K.Kind.laws c.args.kind.now) c.args.cells.now c.args.pool.now c.args.root c.args.from c.args.len c.requires.owns c.requires.few c.part-first.new.cells c.part-first.new.pool c.part-first.result c.part-first.ensures.splits c.part_rest-second.new.cells c.part_rest-second.new.pool c.part_rest-second.result c.part_rest-second.ensures.splits c.requires.some;
 }
 
 pub returns : goal.returns
-returns g c = cuts (g.K.Kind.meaning c.args.kind.now) (g.K.Kind.laws c.args.kind.now) c.args.cells.now c.args.pool.now c.args.root c.args.from c.args.len c.requires.owns c.requires.few c.part-first.new.cells c.part-first.new.pool c.part-first.result c.part-first.ensures.splits c.part-rest-second.new.cells c.part-rest-second.new.pool c.part-rest-second.result c.part-rest-second.ensures.splits c.join-left.new.cells c.join-left.new.pool c.join-left.result c.join-left.ensures.grows
+returns g c = cuts (g.K.Kind.meaning c.args.kind.now) (g.K.Kind.laws c.args.kind.now) c.args.cells.now c.args.pool.now c.args.root c.args.from c.args.len c.requires.owns c.requires.few c.part-first.new.cells c.part-first.new.pool c.part-first.result c.part-first.ensures.splits c.part_rest-second.new.cells c.part_rest-second.new.pool c.part_rest-second.result c.part_rest-second.ensures.splits c.join-left.new.cells c.join-left.new.pool c.join-left.result c.join-left.ensures.grows

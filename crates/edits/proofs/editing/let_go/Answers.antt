@@ -10,5 +10,5 @@ release-requires g c = record {
 pub returns-in-Some : goal.returns-in-Some
 returns-in-Some g c = gone_some (g.K.Kind.meaning c.args.kind.now) c.args.cells.now c.args.pool.now c.args.rest c.in-Some.loose c.in-Some.is c.requires.owns c.requires.few c.release.new.cells c.release.new.pool c.release.ensures
 
-pub returns-in-default : goal.returns-in-default
-returns-in-default g c = gone_none (g.K.Kind.meaning c.args.kind.now) c.args.cells.now c.args.pool.now c.args.rest c.in-default.is
+pub returns-in_default : goal.returns-in_default
+returns-in_default g c = gone_none (g.K.Kind.meaning c.args.kind.now) c.args.cells.now c.args.pool.now c.args.rest c.in_default.is

@@ -16,8 +16,8 @@ retain-requires g c = record {
   live = foot_live (g.K.Kind.meaning c.args.kind.now) c.args.flip c.args.cells.now c.args.pool.now c.args.left c.args.right c.args.item c.requires.holds c.requires.linkable c.requires.heavy c.sink-foot.new.table c.sink-foot.result c.sink-foot.ensures;
 }
 
-pub make-facing-low-requires : goal.make-facing-low-requires
-make-facing-low-requires g c = record {
+pub make_facing-low-requires : goal.make_facing-low-requires
+make_facing-low-requires g c = record {
   owned = (c.args.right ∷ c.requires.holds.rest, arena_b (g.K.Kind.meaning c.args.kind.now) c.args.flip c.args.cells.now c.args.pool.now c.args.left c.args.right c.args.item c.requires.holds c.requires.linkable c.requires.heavy c.sink-foot.new.table c.sink-foot.result c.sink-foot.ensures c.retain.new.cells c.retain.ensures.retains);
   fits = fits_b (g.K.Kind.meaning c.args.kind.now) c.args.flip c.args.cells.now c.args.pool.now c.args.left c.args.right c.args.item c.requires.holds c.requires.linkable c.requires.heavy c.sink-foot.new.table c.sink-foot.result c.sink-foot.ensures c.retain.new.cells c.retain.ensures.retains c.requires.whole;
   some = omega (arith, c.requires.some);
@@ -25,17 +25,17 @@ make-facing-low-requires g c = record {
 
 pub climb-r-requires : goal.climb-r-requires
 climb-r-requires g c = record {
-  holds = holds_c (g.K.Kind.meaning c.args.kind.now) c.args.flip c.args.cells.now c.args.pool.now c.args.left c.args.right c.args.item c.requires.holds c.requires.linkable c.requires.heavy c.sink-foot.new.table c.sink-foot.result c.sink-foot.ensures c.retain.new.cells c.retain.ensures.retains c.make-facing-low.new.cells c.make-facing-low.new.pool c.make-facing-low.result c.make-facing-low.ensures.yields;
-  tabled = tabled_c (g.K.Kind.meaning c.args.kind.now) c.args.flip c.args.cells.now c.args.pool.now c.args.left c.args.right c.args.item c.requires.holds c.requires.linkable c.requires.heavy c.sink-foot.new.table c.sink-foot.result c.sink-foot.ensures c.retain.new.cells c.retain.ensures.retains c.make-facing-low.new.cells c.make-facing-low.new.pool c.make-facing-low.result c.make-facing-low.ensures.yields;
-  climbs = climbs_c (g.K.Kind.meaning c.args.kind.now) c.args.flip c.args.cells.now c.args.pool.now c.args.left c.args.right c.args.item c.requires.holds c.requires.linkable c.requires.heavy c.sink-foot.new.table c.sink-foot.result c.sink-foot.ensures c.retain.new.cells c.retain.ensures.retains c.make-facing-low.new.cells c.make-facing-low.new.pool c.make-facing-low.result c.make-facing-low.ensures.yields;
-  some = some_c (g.K.Kind.meaning c.args.kind.now) c.args.flip c.args.cells.now c.args.pool.now c.args.left c.args.right c.args.item c.requires.holds c.requires.linkable c.requires.heavy c.sink-foot.new.table c.sink-foot.result c.sink-foot.ensures c.retain.new.cells c.retain.ensures.retains c.make-facing-low.new.cells c.make-facing-low.new.pool c.make-facing-low.result c.make-facing-low.ensures.yields c.requires.some;
+  holds = holds_c (g.K.Kind.meaning c.args.kind.now) c.args.flip c.args.cells.now c.args.pool.now c.args.left c.args.right c.args.item c.requires.holds c.requires.linkable c.requires.heavy c.sink-foot.new.table c.sink-foot.result c.sink-foot.ensures c.retain.new.cells c.retain.ensures.retains c.make_facing-low.new.cells c.make_facing-low.new.pool c.make_facing-low.result c.make_facing-low.ensures.yields;
+  tabled = tabled_c (g.K.Kind.meaning c.args.kind.now) c.args.flip c.args.cells.now c.args.pool.now c.args.left c.args.right c.args.item c.requires.holds c.requires.linkable c.requires.heavy c.sink-foot.new.table c.sink-foot.result c.sink-foot.ensures c.retain.new.cells c.retain.ensures.retains c.make_facing-low.new.cells c.make_facing-low.new.pool c.make_facing-low.result c.make_facing-low.ensures.yields;
+  climbs = climbs_c (g.K.Kind.meaning c.args.kind.now) c.args.flip c.args.cells.now c.args.pool.now c.args.left c.args.right c.args.item c.requires.holds c.requires.linkable c.requires.heavy c.sink-foot.new.table c.sink-foot.result c.sink-foot.ensures c.retain.new.cells c.retain.ensures.retains c.make_facing-low.new.cells c.make_facing-low.new.pool c.make_facing-low.result c.make_facing-low.ensures.yields;
+  some = some_c (g.K.Kind.meaning c.args.kind.now) c.args.flip c.args.cells.now c.args.pool.now c.args.left c.args.right c.args.item c.requires.holds c.requires.linkable c.requires.heavy c.sink-foot.new.table c.sink-foot.result c.sink-foot.ensures c.retain.new.cells c.retain.ensures.retains c.make_facing-low.new.cells c.make_facing-low.new.pool c.make_facing-low.result c.make_facing-low.ensures.yields c.requires.some;
 }
 
 pub release-requires : goal.release-requires
 release-requires g c = record {
-  owned = (c.climb-r.result ∷ c.requires.holds.rest, arena_d (g.K.Kind.meaning c.args.kind.now) c.args.flip c.args.cells.now c.args.pool.now c.args.left c.args.right c.args.item c.requires.holds c.requires.linkable c.requires.heavy c.sink-foot.new.table c.sink-foot.result c.sink-foot.ensures c.retain.new.cells c.retain.ensures.retains c.make-facing-low.new.cells c.make-facing-low.new.pool c.make-facing-low.result c.make-facing-low.ensures.yields c.climb-r.new.cells c.climb-r.new.pool c.climb-r.result c.climb-r.ensures);
-  few = few_d (g.K.Kind.meaning c.args.kind.now) c.args.flip c.args.cells.now c.args.pool.now c.args.left c.args.right c.args.item c.requires.holds c.requires.linkable c.requires.heavy c.sink-foot.new.table c.sink-foot.result c.sink-foot.ensures c.retain.new.cells c.retain.ensures.retains c.make-facing-low.new.cells c.make-facing-low.new.pool c.make-facing-low.result c.make-facing-low.ensures.yields c.climb-r.new.cells c.climb-r.new.pool c.climb-r.result c.climb-r.ensures;
+  owned = (c.climb-r.result ∷ c.requires.holds.rest, arena_d (g.K.Kind.meaning c.args.kind.now) c.args.flip c.args.cells.now c.args.pool.now c.args.left c.args.right c.args.item c.requires.holds c.requires.linkable c.requires.heavy c.sink-foot.new.table c.sink-foot.result c.sink-foot.ensures c.retain.new.cells c.retain.ensures.retains c.make_facing-low.new.cells c.make_facing-low.new.pool c.make_facing-low.result c.make_facing-low.ensures.yields c.climb-r.new.cells c.climb-r.new.pool c.climb-r.result c.climb-r.ensures);
+  few = few_d (g.K.Kind.meaning c.args.kind.now) c.args.flip c.args.cells.now c.args.pool.now c.args.left c.args.right c.args.item c.requires.holds c.requires.linkable c.requires.heavy c.sink-foot.new.table c.sink-foot.result c.sink-foot.ensures c.retain.new.cells c.retain.ensures.retains c.make_facing-low.new.cells c.make_facing-low.new.pool c.make_facing-low.result c.make_facing-low.ensures.yields c.climb-r.new.cells c.climb-r.new.pool c.climb-r.result c.climb-r.ensures;
 }
 
 pub returns : goal.returns
-returns g c = hangs (g.K.Kind.meaning c.args.kind.now) c.args.flip c.args.cells.now c.args.pool.now c.args.left c.args.right c.args.item c.requires.holds c.requires.linkable c.requires.heavy c.sink-foot.new.table c.sink-foot.result c.sink-foot.ensures c.retain.new.cells c.retain.ensures.retains c.make-facing-low.new.cells c.make-facing-low.new.pool c.make-facing-low.result c.make-facing-low.ensures.yields c.climb-r.new.cells c.climb-r.new.pool c.climb-r.result c.climb-r.ensures c.release.new.cells c.release.new.pool c.release.ensures
+returns g c = hangs (g.K.Kind.meaning c.args.kind.now) c.args.flip c.args.cells.now c.args.pool.now c.args.left c.args.right c.args.item c.requires.holds c.requires.linkable c.requires.heavy c.sink-foot.new.table c.sink-foot.result c.sink-foot.ensures c.retain.new.cells c.retain.ensures.retains c.make_facing-low.new.cells c.make_facing-low.new.pool c.make_facing-low.result c.make_facing-low.ensures.yields c.climb-r.new.cells c.climb-r.new.pool c.climb-r.result c.climb-r.ensures c.release.new.cells c.release.new.pool c.release.ensures

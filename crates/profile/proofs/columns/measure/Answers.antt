@@ -6,6 +6,6 @@ use Rattle.profile.proofs.columns.measure.Goals as goal
 pub returns : goal.returns
 returns g c =
     let k = g.K.Kind.meaning c.args.k.now in
-    let is = sym c.in-ok-e.ensures in
-    let lawful = of_numbers c.args.a c.args.b c.in-ok-e.e (omega arith) (omega arith) is in
+    let is = sym c.in_ok-e.ensures in
+    let lawful = of_numbers c.args.a c.args.b c.in_ok-e.e (omega arith) (omega arith) is in
     ap Ok (c.summary.ensures lawful) ∙ sym (ap (summary_of k) is)

@@ -10,8 +10,8 @@ pub loop-l-preserved : goal.loop-l-preserved
 loop-l-preserved c =
     let f = mark (to_z w16 (of_z w16 c.args.low)) (to_z w16 (of_z w16 c.args.high)) in
     let i = c.loop-l.l-index in
-    pushed (c.mark-of.result ∷ []) c.loop-l.invariant c.in-ok-push.was c.push.ensures.items
-    ∙ ap (λ m. map f (take i c.args.columns.now) ++ (m ∷ [])) c.mark-of.ensures
+    pushed (c.mark_of.result ∷ []) c.loop-l.invariant c.in_ok-push.was c.push.ensures.items
+    ∙ ap (λ m. map f (take i c.args.columns.now) ++ (m ∷ [])) c.mark_of.ensures
     ∙ sym (map_more f c.args.columns.now i (levels 0 (pos 0) (pos 0) 0) c.loop-l-test.true)
 
 pub returns : goal.returns

@@ -3,8 +3,8 @@ use Rattle.std.proofs.lemmas.Int.{to_z-of_z, to_z_pos, ints}
 use Rattle.reels.proofs.Scale.{product_fits}
 use Rattle.reels.proofs.gain.product.Goals as goal
 
-pub overflow-mul-result : goal.overflow-mul-result
-overflow-mul-result c =
+pub overflow_mul-result : goal.overflow_mul-result
+overflow_mul-result c =
     let f : SFits w16 c.args.s = c.ranges.s in
     let g : SFits w32 c.args.s = search (rules, ints) in
     let b : c.args.n < 2 ^ 31 = omega arith in

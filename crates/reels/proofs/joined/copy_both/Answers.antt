@@ -7,11 +7,11 @@ pub returns-then-start-before : goal.returns-then-start-before
 returns-then-start-before g c =
     let xs = g.P.Reel.samples c.args.first.now in
     let ys = g.Q.Reel.samples c.args.second.now in
-    filled_both xs ys c.args.start c.args.block.now (rw length-append at c.requires) c.copy-to-n.new.block c.copy-to.new.block c.copy-to-n.result c.copy-to.result (omega arith) c.copy-to-n.ensures c.copy-to.ensures
+    filled_both xs ys c.args.start c.args.block.now (rw length-append at c.requires) c.copy_to-n.new.block c.copy_to.new.block c.copy_to-n.result c.copy_to.result (omega arith) c.copy_to-n.ensures c.copy_to.ensures
 
 pub returns-else-start-before : goal.returns-else-start-before
 returns-else-start-before g c =
     let xs = g.P.Reel.samples c.args.first.now in
     let ys = g.Q.Reel.samples c.args.second.now in
-    let copied = subst (λ n. Copied ys (c.args.start - n) c.args.block.now c.copy-to-else-start-before.new.block c.copy-to-else-start-before.result) c.len-before.ensures c.copy-to-else-start-before.ensures in
-    filled_back xs ys c.args.start c.args.block.now (rw length-append at c.requires) c.copy-to-else-start-before.new.block c.copy-to-else-start-before.result (omega arith) copied
+    let copied = subst (λ n. Copied ys (c.args.start - n) c.args.block.now c.copy_to-else-start-before.new.block c.copy_to-else-start-before.result) c.len-before.ensures c.copy_to-else-start-before.ensures in
+    filled_back xs ys c.args.start c.args.block.now (rw length-append at c.requires) c.copy_to-else-start-before.new.block c.copy_to-else-start-before.result (omega arith) copied

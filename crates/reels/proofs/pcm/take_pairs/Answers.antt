@@ -11,10 +11,10 @@ loop-i-init c = refl
 
 pub loop-i-preserved : goal.loop-i-preserved
 loop-i-preserved c =
-    let f : SFits w16 c.from-le-bytes.result = search rules in
-    let here : slice_get (pairs c.args.bytes.now) c.loop-i.i ≡ Some (to_z w16 (of_z w16 c.from-le-bytes.result)) =
-    nth_pairs c.args.bytes.now c.loop-i.i (omega arith) ∙ ap Some (sym c.from-le-bytes.ensures ∙ sym (to_z-of_z w16 c.from-le-bytes.result f)) in
-    ap (λ l. set l c.loop-i.i (to_z w16 (of_z w16 c.from-le-bytes.result))) c.loop-i.invariant
+    let f : SFits w16 c.from_le_bytes.result = search rules in
+    let here : slice_get (pairs c.args.bytes.now) c.loop-i.i ≡ Some (to_z w16 (of_z w16 c.from_le_bytes.result)) =
+    nth_pairs c.args.bytes.now c.loop-i.i (omega arith) ∙ ap Some (sym c.from_le_bytes.ensures ∙ sym (to_z-of_z w16 c.from_le_bytes.result f)) in
+    ap (λ l. set l c.loop-i.i (to_z w16 (of_z w16 c.from_le_bytes.result))) c.loop-i.invariant
     ∙ over_more (pairs c.args.bytes.now) c.args.block.now c.loop-i.i _ c.loop-i-test.true here
 
 pub returns : goal.returns

@@ -16,12 +16,12 @@ loop-i-preserved c =
     let done = take (2 * i) (bytes_of xs) ++ drop (2 * i) c.args.out.now in
     let f : SFits w16 (get_or c.args.block.now c.loop-i.i (pos 0)) = search rules in
     let same = to_z-of_z w16 (get_or c.args.block.now c.loop-i.i (pos 0)) f in
-    let low : get_or c.to-le-bytes.result 0 0 ≡ of_z w16 (get_or c.args.block.now c.loop-i.i (pos 0)) % 256 =
-    ap (λ l. get_or l 0 0) c.to-le-bytes.ensures ∙ ap (λ z. of_z w16 z % 256) same in
-    let high : get_or c.to-le-bytes.result 1 0 ≡ of_z w16 (get_or c.args.block.now c.loop-i.i (pos 0)) / 256 =
-    ap (λ l. get_or l 1 0) c.to-le-bytes.ensures ∙ ap (λ z. of_z w16 z / 256 % 256) same ∙ high_fits _ f in
-    ap (λ l. set (set l (2 * i) (get_or c.to-le-bytes.result 0 0)) (2 * i + 1) (get_or c.to-le-bytes.result 1 0)) c.loop-i.invariant
-    ∙ ap (λ v. set (set done (2 * i) v) (2 * i + 1) (get_or c.to-le-bytes.result 1 0)) low
+    let low : get_or c.to_le_bytes.result 0 0 ≡ of_z w16 (get_or c.args.block.now c.loop-i.i (pos 0)) % 256 =
+    ap (λ l. get_or l 0 0) c.to_le_bytes.ensures ∙ ap (λ z. of_z w16 z % 256) same in
+    let high : get_or c.to_le_bytes.result 1 0 ≡ of_z w16 (get_or c.args.block.now c.loop-i.i (pos 0)) / 256 =
+    ap (λ l. get_or l 1 0) c.to_le_bytes.ensures ∙ ap (λ z. of_z w16 z / 256 % 256) same ∙ high_fits _ f in
+    ap (λ l. set (set l (2 * i) (get_or c.to_le_bytes.result 0 0)) (2 * i + 1) (get_or c.to_le_bytes.result 1 0)) c.loop-i.invariant
+    ∙ ap (λ v. set (set done (2 * i) v) (2 * i + 1) (get_or c.to_le_bytes.result 1 0)) low
     ∙ ap (λ v. set (set done (2 * i) (of_z w16 (get_or xs i (pos 0)) % 256)) (2 * i + 1) v) high
     ∙ put_pair xs c.args.out.now i c.loop-i-test.true c.requires
 

@@ -10,10 +10,10 @@ returns-then-n-eq0 g c =
     let so_far = c.loop-scratch.invariant.1 in
     let few : c.loop-scratch.done ≤ length (g.R.Reel.samples c.args.reel.now) - c.args.start = omega (arith, c.loop-scratch.invariant.0) in
     let left = part_length samples c.args.start done c.args.out.now c.loop-scratch.out so_far few in
-    let end : c.loop-scratch.done + c.write-block-n.result ≡ c.loop-scratch.done = omega arith in
-    let more = block_more samples c.args.start done c.args.out.now c.loop-scratch.out so_far few c.write-block-n.result c.write-block-n.new.out c.write-block-n.ensures.bytes in
+    let end : c.loop-scratch.done + c.write_block-n.result ≡ c.loop-scratch.done = omega arith in
+    let more = block_more samples c.args.start done c.args.out.now c.loop-scratch.out so_far few c.write_block-n.result c.write_block-n.new.out c.write_block-n.ensures.bytes in
     record {
-      count = omega (arith, c.write-block-n.ensures.count, c.loop-scratch.invariant.0, left);
+      count = omega (arith, c.write_block-n.ensures.count, c.loop-scratch.invariant.0, left);
       bytes = more ∙ ap (λ n. bytes_of (stretch samples c.args.start n) ++ drop (2 * n) c.args.out.now) end;
     }
 
@@ -24,6 +24,6 @@ loop-scratch-preserved g c =
     let so_far = c.loop-scratch.invariant.1 in
     let few : c.loop-scratch.done ≤ length (g.R.Reel.samples c.args.reel.now) - c.args.start = omega (arith, c.loop-scratch.invariant.0) in
     let left = part_length samples c.args.start done c.args.out.now c.loop-scratch.out so_far few in (
-      omega (arith, c.write-block-n.ensures.count, c.loop-scratch.invariant.0, left),
-      block_more samples c.args.start done c.args.out.now c.loop-scratch.out so_far few c.write-block-n.result c.write-block-n.new.out c.write-block-n.ensures.bytes,
+      omega (arith, c.write_block-n.ensures.count, c.loop-scratch.invariant.0, left),
+      block_more samples c.args.start done c.args.out.now c.loop-scratch.out so_far few c.write_block-n.result c.write_block-n.new.out c.write_block-n.ensures.bytes,
     )

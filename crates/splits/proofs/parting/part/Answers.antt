@@ -6,8 +6,8 @@ use Rattle.splits.proofs.Parts.{root_live, root_few, room, splits_beyond, holdin
 use Rattle.splits.proofs.InLists.{divides_tree}
 use Rattle.splits.proofs.parting.part.Goals as goal
 
-pub width-at-requires : goal.width-at-requires
-width-at-requires g c = record {
+pub width_at-requires : goal.width_at-requires
+width_at-requires g c = record {
   sound = c.requires.owns.arena.sound;
   live = root_live (g.K.Kind.meaning c.args.kind.now) (g.K.Kind.laws c.args.kind.now) c.args.cells.now c.args.pool.now c.args.root c.args.place c.requires.owns c.requires.few;
 }
@@ -18,50 +18,50 @@ retain-requires g c = record {
   live = root_live (g.K.Kind.meaning c.args.kind.now) (g.K.Kind.laws c.args.kind.now) c.args.cells.now c.args.pool.now c.args.root c.args.place c.requires.owns c.requires.few;
 }
 
-pub returns-then-place-width-at : goal.returns-then-place-width-at
-returns-then-place-width-at g c =
-    let splits = splits_beyond (g.K.Kind.meaning c.args.kind.now) (g.K.Kind.laws c.args.kind.now) c.args.cells.now c.args.pool.now c.args.root c.args.place c.requires.owns c.requires.few (omega (arith, c.width-at.ensures, c.if-place-width-at.true)) c.retain.new.cells c.retain.ensures.retains in
+pub returns-then-place-width_at : goal.returns-then-place-width_at
+returns-then-place-width_at g c =
+    let splits = splits_beyond (g.K.Kind.meaning c.args.kind.now) (g.K.Kind.laws c.args.kind.now) c.args.cells.now c.args.pool.now c.args.root c.args.place c.requires.owns c.requires.few (omega (arith, c.width_at.ensures, c.if-place-width_at.true)) c.retain.new.cells c.retain.ensures.retains in
     record { splits = splits; lists = divides_tree (g.K.Kind.meaning c.args.kind.now) c.retain.new.cells _ c.args.place (tree c.args.cells.now c.args.root) splits.before_is splits.rest_is }
 
 pub descend-found-requires : goal.descend-found-requires
 descend-found-requires g c = record {
   sound = c.requires.owns.arena.sound;
   live = root_live (g.K.Kind.meaning c.args.kind.now) (g.K.Kind.laws c.args.kind.now) c.args.cells.now c.args.pool.now c.args.root c.args.place c.requires.owns c.requires.few;
-  within = omega (arith, c.width-at.ensures, c.if-place-width-at.false);
+  within = omega (arith, c.width_at.ensures, c.if-place-width_at.false);
   few = root_few (g.K.Kind.meaning c.args.kind.now) (g.K.Kind.laws c.args.kind.now) c.args.cells.now c.args.pool.now c.args.root c.args.place c.requires.owns c.requires.few;
 }
 
-pub cell-at-c-requires : goal.cell-at-c-requires
-cell-at-c-requires g c = some_in c.args.cells.now c.descend-found.result.cell c.descend-found.ensures.walked.cell c.descend-found.ensures.walked.at
+pub cell_at-c-requires : goal.cell_at-c-requires
+cell_at-c-requires g c = some_in c.args.cells.now c.descend-found.result.cell c.descend-found.ensures.walked.cell c.descend-found.ensures.walked.at
 
-pub behind-of-behind-requires : goal.behind-of-behind-requires
-behind-of-behind-requires g c =
-    let inside : c.args.place < span (shape (g.K.Kind.meaning c.args.kind.now)) (tree c.args.cells.now c.args.root) = omega (arith, c.width-at.ensures, c.if-place-width-at.false) in
+pub behind_of-behind-requires : goal.behind_of-behind-requires
+behind_of-behind-requires g c =
+    let inside : c.args.place < span (shape (g.K.Kind.meaning c.args.kind.now)) (tree c.args.cells.now c.args.root) = omega (arith, c.width_at.ensures, c.if-place-width_at.false) in
     let lefts : length c.descend-found.new.lefts ≡ 64 = search rules in
     let rights : length c.descend-found.new.rights ≡ 64 = search rules in
-    asks_behind (g.K.Kind.meaning c.args.kind.now) (g.K.Kind.laws c.args.kind.now) c.args.cells.now c.args.pool.now c.args.root c.args.place c.requires.owns c.requires.few inside c.requires.some c.descend-found.new.lefts c.descend-found.new.rights lefts rights c.descend-found.result c.descend-found.ensures.walked c.cell-at-c.result c.cell-at-c.ensures
+    asks_behind (g.K.Kind.meaning c.args.kind.now) (g.K.Kind.laws c.args.kind.now) c.args.cells.now c.args.pool.now c.args.root c.args.place c.requires.owns c.requires.few inside c.requires.some c.descend-found.new.lefts c.descend-found.new.rights lefts rights c.descend-found.result c.descend-found.ensures.walked c.cell_at-c.result c.cell_at-c.ensures
 
-pub before-of-before-requires : goal.before-of-before-requires
-before-of-before-requires g c =
-    let inside : c.args.place < span (shape (g.K.Kind.meaning c.args.kind.now)) (tree c.args.cells.now c.args.root) = omega (arith, c.width-at.ensures, c.if-place-width-at.false) in
+pub before_of-before-requires : goal.before_of-before-requires
+before_of-before-requires g c =
+    let inside : c.args.place < span (shape (g.K.Kind.meaning c.args.kind.now)) (tree c.args.cells.now c.args.root) = omega (arith, c.width_at.ensures, c.if-place-width_at.false) in
     let lefts : length c.descend-found.new.lefts ≡ 64 = search rules in
     let rights : length c.descend-found.new.rights ≡ 64 = search rules in
-    asks_before (g.K.Kind.meaning c.args.kind.now) (g.K.Kind.laws c.args.kind.now) c.args.cells.now c.args.pool.now c.args.root c.args.place c.requires.owns c.requires.few inside c.requires.some c.descend-found.new.lefts c.descend-found.new.rights lefts rights c.descend-found.result c.descend-found.ensures.walked c.cell-at-c.result c.cell-at-c.ensures c.behind-of-behind.new.cells c.behind-of-behind.new.pool c.behind-of-behind.result c.behind-of-behind.ensures
+    asks_before (g.K.Kind.meaning c.args.kind.now) (g.K.Kind.laws c.args.kind.now) c.args.cells.now c.args.pool.now c.args.root c.args.place c.requires.owns c.requires.few inside c.requires.some c.descend-found.new.lefts c.descend-found.new.rights lefts rights c.descend-found.result c.descend-found.ensures.walked c.cell_at-c.result c.cell_at-c.ensures c.behind_of-behind.new.cells c.behind_of-behind.new.pool c.behind_of-behind.result c.behind_of-behind.ensures
 
-pub from-on-requires : goal.from-on-requires
-from-on-requires g c =
-    let inside : c.args.place < span (shape (g.K.Kind.meaning c.args.kind.now)) (tree c.args.cells.now c.args.root) = omega (arith, c.width-at.ensures, c.if-place-width-at.false) in
+pub from_on-requires : goal.from_on-requires
+from_on-requires g c =
+    let inside : c.args.place < span (shape (g.K.Kind.meaning c.args.kind.now)) (tree c.args.cells.now c.args.root) = omega (arith, c.width_at.ensures, c.if-place-width_at.false) in
     let lefts : length c.descend-found.new.lefts ≡ 64 = search rules in
     let rights : length c.descend-found.new.rights ≡ 64 = search rules in
     record {
-      tied = holding_tied (g.K.Kind.meaning c.args.kind.now) (g.K.Kind.laws c.args.kind.now) c.args.cells.now c.args.pool.now c.args.root c.args.place c.requires.owns c.requires.few inside c.requires.some c.descend-found.new.lefts c.descend-found.new.rights lefts rights c.descend-found.result c.descend-found.ensures.walked c.cell-at-c.result c.cell-at-c.ensures c.behind-of-behind.result;
-      inside = holding_inside (g.K.Kind.meaning c.args.kind.now) (g.K.Kind.laws c.args.kind.now) c.args.cells.now c.args.pool.now c.args.root c.args.place c.requires.owns c.requires.few inside c.requires.some c.descend-found.new.lefts c.descend-found.new.rights lefts rights c.descend-found.result c.descend-found.ensures.walked c.cell-at-c.result c.cell-at-c.ensures;
+      tied = holding_tied (g.K.Kind.meaning c.args.kind.now) (g.K.Kind.laws c.args.kind.now) c.args.cells.now c.args.pool.now c.args.root c.args.place c.requires.owns c.requires.few inside c.requires.some c.descend-found.new.lefts c.descend-found.new.rights lefts rights c.descend-found.result c.descend-found.ensures.walked c.cell_at-c.result c.cell_at-c.ensures c.behind_of-behind.result;
+      inside = holding_inside (g.K.Kind.meaning c.args.kind.now) (g.K.Kind.laws c.args.kind.now) c.args.cells.now c.args.pool.now c.args.root c.args.place c.requires.owns c.requires.few inside c.requires.some c.descend-found.new.lefts c.descend-found.new.rights lefts rights c.descend-found.result c.descend-found.ensures.walked c.cell_at-c.result c.cell_at-c.ensures;
     }
 
 pub returns : goal.returns
 returns g c =
-    let inside : c.args.place < span (shape (g.K.Kind.meaning c.args.kind.now)) (tree c.args.cells.now c.args.root) = omega (arith, c.width-at.ensures, c.if-place-width-at.false) in
+    let inside : c.args.place < span (shape (g.K.Kind.meaning c.args.kind.now)) (tree c.args.cells.now c.args.root) = omega (arith, c.width_at.ensures, c.if-place-width_at.false) in
     let lefts : length c.descend-found.new.lefts ≡ 64 = search rules in
     let rights : length c.descend-found.new.rights ≡ 64 = search rules in
-    let splits = splits_inside (g.K.Kind.meaning c.args.kind.now) (g.K.Kind.laws c.args.kind.now) c.args.cells.now c.args.pool.now c.args.root c.args.place c.requires.owns c.requires.few inside c.requires.some c.descend-found.new.lefts c.descend-found.new.rights lefts rights c.descend-found.result c.descend-found.ensures.walked c.cell-at-c.result c.cell-at-c.ensures c.behind-of-behind.new.cells c.behind-of-behind.new.pool c.behind-of-behind.result c.behind-of-behind.ensures c.before-of-before.new.cells c.before-of-before.new.pool c.before-of-before.result c.before-of-before.ensures c.from-on.result c.from-on.ensures.tied c.from-on.ensures.element c.from-on.ensures.root in
-    record { splits = splits; lists = divides_tree (g.K.Kind.meaning c.args.kind.now) c.before-of-before.new.cells _ c.args.place (tree c.args.cells.now c.args.root) splits.before_is splits.rest_is }
+    let splits = splits_inside (g.K.Kind.meaning c.args.kind.now) (g.K.Kind.laws c.args.kind.now) c.args.cells.now c.args.pool.now c.args.root c.args.place c.requires.owns c.requires.few inside c.requires.some c.descend-found.new.lefts c.descend-found.new.rights lefts rights c.descend-found.result c.descend-found.ensures.walked c.cell_at-c.result c.cell_at-c.ensures c.behind_of-behind.new.cells c.behind_of-behind.new.pool c.behind_of-behind.result c.behind_of-behind.ensures c.before_of-before.new.cells c.before_of-before.new.pool c.before_of-before.result c.before_of-before.ensures c.from_on.result c.from_on.ensures.tied c.from_on.ensures.element c.from_on.ensures.root in
+    record { splits = splits; lists = divides_tree (g.K.Kind.meaning c.args.kind.now) c.before_of-before.new.cells _ c.args.place (tree c.args.cells.now c.args.root) splits.before_is splits.rest_is }

@@ -3,8 +3,8 @@ use Rattle.splits.specs.Splitting.{loose_roots}
 use Rattle.splits.proofs.LooseParts.{loose_one, up_owns, up_few, up_short, up_some, splits_inside, deeper_owns, deeper_few, deeper_some, drop_arena, drop_few, link_holds, link_linkable, link_some, splits_past}
 use Rattle.splits.proofs.parting.part_loose.Goals as goal
 
-pub up-to-before-requires : goal.up-to-before-requires
-up-to-before-requires g c = record {
+pub up_to-before-requires : goal.up_to-before-requires
+up_to-before-requires g c = record {
   owns = up_owns (g.K.Kind.meaning c.args.kind.now) (g.K.Kind.laws c.args.kind.now) c.args.cells.now c.args.pool.now c.args.loose c.args.place c.requires.owns c.requires.tied c.requires.few c.requires.short c.requires.some 4294967295 (omega arith) (omega (arith, c.extent-own.ensures c.requires.tied.lawful, c.if-place-own.true));
   lawful = c.requires.tied.lawful;
   inside = omega (arith, c.extent-own.ensures c.requires.tied.lawful, c.if-place-own.true);
@@ -13,15 +13,15 @@ up-to-before-requires g c = record {
   some = up_some (g.K.Kind.meaning c.args.kind.now) (g.K.Kind.laws c.args.kind.now) c.args.cells.now c.args.pool.now c.args.loose c.args.place c.requires.owns c.requires.tied c.requires.few c.requires.short c.requires.some 4294967295 (omega arith) (omega (arith, c.extent-own.ensures c.requires.tied.lawful, c.if-place-own.true));
 }
 
-pub from-on-requires : goal.from-on-requires
-from-on-requires g c = record {
+pub from_on-requires : goal.from_on-requires
+from_on-requires g c = record {
   tied = c.requires.tied;
   inside = omega (arith, c.extent-own.ensures c.requires.tied.lawful, c.if-place-own.true);
 }
 
 pub returns-then-place-own : goal.returns-then-place-own
 returns-then-place-own g c =
-    splits_inside (g.K.Kind.meaning c.args.kind.now) (g.K.Kind.laws c.args.kind.now) c.args.cells.now c.args.pool.now c.args.loose c.args.place c.requires.owns c.requires.tied c.requires.few c.requires.short c.requires.some 4294967295 (omega arith) (omega (arith, c.extent-own.ensures c.requires.tied.lawful, c.if-place-own.true)) c.up-to-before.new.cells c.up-to-before.new.pool c.up-to-before.result c.up-to-before.ensures c.from-on.result c.from-on.ensures.tied c.from-on.ensures.element c.from-on.ensures.root
+    splits_inside (g.K.Kind.meaning c.args.kind.now) (g.K.Kind.laws c.args.kind.now) c.args.cells.now c.args.pool.now c.args.loose c.args.place c.requires.owns c.requires.tied c.requires.few c.requires.short c.requires.some 4294967295 (omega arith) (omega (arith, c.extent-own.ensures c.requires.tied.lawful, c.if-place-own.true)) c.up_to-before.new.cells c.up_to-before.new.pool c.up_to-before.result c.up_to-before.ensures c.from_on.result c.from_on.ensures.tied c.from_on.ensures.element c.from_on.ensures.root
 
 pub part-deeper-requires : goal.part-deeper-requires
 part-deeper-requires g c = record {
@@ -39,10 +39,10 @@ release-requires g c = record {
 pub link-before-requires : goal.link-before-requires
 link-before-requires g c = record {
   holds = link_holds (g.K.Kind.meaning c.args.kind.now) (g.K.Kind.laws c.args.kind.now) c.args.cells.now c.args.pool.now c.args.loose c.args.place c.requires.owns c.requires.tied c.requires.few c.requires.short c.requires.some 4294967295 (omega arith) (omega (arith, c.extent-own.ensures c.requires.tied.lawful, c.if-place-own.false)) (c.args.place - c.extent-own.result) (omega (arith, c.extent-own.ensures c.requires.tied.lawful)) c.part-deeper.new.cells c.part-deeper.new.pool c.part-deeper.result c.part-deeper.ensures.splits c.release.new.cells c.release.new.pool c.release.ensures (loose_one c.part-deeper.result.loose);
-  linkable = link_linkable (g.K.Kind.meaning c.args.kind.now) (g.K.Kind.laws c.args.kind.now) c.args.cells.now c.args.pool.now c.args.loose c.args.place c.requires.owns c.requires.tied c.requires.few c.requires.short c.requires.some 4294967295 (omega arith) (omega (arith, c.extent-own.ensures c.requires.tied.lawful, c.if-place-own.false)) (c.args.place - c.extent-own.result) (omega (arith, c.extent-own.ensures c.requires.tied.lawful)) c.part-deeper.new.cells c.part-deeper.new.pool c.part-deeper.result c.part-deeper.ensures.splits c.release.new.cells c.release.new.pool c.release.ensures c.item-of.result.element c.item-of.ensures.element;
-  whole = c.item-of.ensures.whole;
-  some = link_some (g.K.Kind.meaning c.args.kind.now) (g.K.Kind.laws c.args.kind.now) c.args.cells.now c.args.pool.now c.args.loose c.args.place c.requires.owns c.requires.tied c.requires.few c.requires.short c.requires.some 4294967295 (omega arith) (omega (arith, c.extent-own.ensures c.requires.tied.lawful, c.if-place-own.false)) (c.args.place - c.extent-own.result) (omega (arith, c.extent-own.ensures c.requires.tied.lawful)) c.part-deeper.new.cells c.part-deeper.new.pool c.part-deeper.result c.part-deeper.ensures.splits c.release.new.cells c.release.new.pool c.release.ensures c.item-of.result.element c.item-of.ensures.element;
+  linkable = link_linkable (g.K.Kind.meaning c.args.kind.now) (g.K.Kind.laws c.args.kind.now) c.args.cells.now c.args.pool.now c.args.loose c.args.place c.requires.owns c.requires.tied c.requires.few c.requires.short c.requires.some 4294967295 (omega arith) (omega (arith, c.extent-own.ensures c.requires.tied.lawful, c.if-place-own.false)) (c.args.place - c.extent-own.result) (omega (arith, c.extent-own.ensures c.requires.tied.lawful)) c.part-deeper.new.cells c.part-deeper.new.pool c.part-deeper.result c.part-deeper.ensures.splits c.release.new.cells c.release.new.pool c.release.ensures c.item_of.result.element c.item_of.ensures.element;
+  whole = c.item_of.ensures.whole;
+  some = link_some (g.K.Kind.meaning c.args.kind.now) (g.K.Kind.laws c.args.kind.now) c.args.cells.now c.args.pool.now c.args.loose c.args.place c.requires.owns c.requires.tied c.requires.few c.requires.short c.requires.some 4294967295 (omega arith) (omega (arith, c.extent-own.ensures c.requires.tied.lawful, c.if-place-own.false)) (c.args.place - c.extent-own.result) (omega (arith, c.extent-own.ensures c.requires.tied.lawful)) c.part-deeper.new.cells c.part-deeper.new.pool c.part-deeper.result c.part-deeper.ensures.splits c.release.new.cells c.release.new.pool c.release.ensures c.item_of.result.element c.item_of.ensures.element;
 }
 
 pub returns : goal.returns
-returns g c = splits_past (g.K.Kind.meaning c.args.kind.now) (g.K.Kind.laws c.args.kind.now) c.args.cells.now c.args.pool.now c.args.loose c.args.place c.requires.owns c.requires.tied c.requires.few c.requires.short c.requires.some 4294967295 (omega arith) (omega (arith, c.extent-own.ensures c.requires.tied.lawful, c.if-place-own.false)) (c.args.place - c.extent-own.result) (omega (arith, c.extent-own.ensures c.requires.tied.lawful)) c.part-deeper.new.cells c.part-deeper.new.pool c.part-deeper.result c.part-deeper.ensures.splits c.release.new.cells c.release.new.pool c.release.ensures c.item-of.result.element c.item-of.ensures.element c.link-before.new.cells c.link-before.new.pool c.link-before.result c.link-before.ensures.yields
+returns g c = splits_past (g.K.Kind.meaning c.args.kind.now) (g.K.Kind.laws c.args.kind.now) c.args.cells.now c.args.pool.now c.args.loose c.args.place c.requires.owns c.requires.tied c.requires.few c.requires.short c.requires.some 4294967295 (omega arith) (omega (arith, c.extent-own.ensures c.requires.tied.lawful, c.if-place-own.false)) (c.args.place - c.extent-own.result) (omega (arith, c.extent-own.ensures c.requires.tied.lawful)) c.part-deeper.new.cells c.part-deeper.new.pool c.part-deeper.result c.part-deeper.ensures.splits c.release.new.cells c.release.new.pool c.release.ensures c.item_of.result.element c.item_of.ensures.element c.link-before.new.cells c.link-before.new.pool c.link-before.result c.link-before.ensures.yields

@@ -5,8 +5,8 @@ use Rattle.splits.specs.Splitting.{behind}
 use Rattle.splits.proofs.InLists.{divides_rest, splits_loose}
 use Rattle.splits.proofs.parting.part_rest.Goals as goal
 
-pub part-loose-requires : goal.part-loose-requires
-part-loose-requires g c = record {
+pub part_loose-requires : goal.part_loose-requires
+part_loose-requires g c = record {
   owns = loose_owns (g.K.Kind.meaning c.args.kind.now) c.args.cells.now c.args.pool.now c.args.rest c.args.place c.in-Some.loose c.in-Some.is c.requires.owns;
   tied = loose_tied (g.K.Kind.meaning c.args.kind.now) c.args.cells.now c.args.pool.now c.args.rest c.args.place c.in-Some.loose c.in-Some.is c.requires.tied;
   few = loose_few (g.K.Kind.meaning c.args.kind.now) c.args.cells.now c.args.pool.now c.args.rest c.args.place c.in-Some.loose c.in-Some.is c.requires.few;
@@ -21,5 +21,5 @@ returns-in-None g c =
 
 pub returns-in-Some : goal.returns-in-Some
 returns-in-Some g c =
-    let splits = splits_loose (g.K.Kind.meaning c.args.kind.now) c.args.cells.now c.args.pool.now c.args.rest c.args.place c.in-Some.loose c.in-Some.is c.part-loose.new.cells c.part-loose.new.pool c.part-loose.result c.part-loose.ensures in
-    record { splits = splits; lists = divides_rest (g.K.Kind.meaning c.args.kind.now) c.part-loose.new.cells c.part-loose.result c.args.place (behind c.args.cells.now c.args.rest) splits.before_is splits.rest_is }
+    let splits = splits_loose (g.K.Kind.meaning c.args.kind.now) c.args.cells.now c.args.pool.now c.args.rest c.args.place c.in-Some.loose c.in-Some.is c.part_loose.new.cells c.part_loose.new.pool c.part_loose.result c.part_loose.ensures in
+    record { splits = splits; lists = divides_rest (g.K.Kind.meaning c.args.kind.now) c.part_loose.new.cells c.part_loose.result c.args.place (behind c.args.cells.now c.args.rest) splits.before_is splits.rest_is }

@@ -10,18 +10,18 @@ bounds-table-n g c =
     let h = row (g.K.Kind.meaning c.args.kind.now) c.args.flip c.args.cells.now c.args.pool.now c.args.low c.args.table.now c.args.top c.requires c.loop-n.cells c.loop-n.pool c.loop-n.x c.loop-n.n (c.loop-n.n - 1) (omega (arith, c.loop-n-test.true)) (c.loop-n.invariant c.requires) in
     omega arith
 
-pub offset-bounds-table-n : goal.offset-bounds-table-n
-offset-bounds-table-n g c =
+pub offset_bounds-table-n : goal.offset_bounds-table-n
+offset_bounds-table-n g c =
     let h = row (g.K.Kind.meaning c.args.kind.now) c.args.flip c.args.cells.now c.args.pool.now c.args.low c.args.table.now c.args.top c.requires c.loop-n.cells c.loop-n.pool c.loop-n.x c.loop-n.n (c.loop-n.n - 1) (omega (arith, c.loop-n-test.true)) (c.loop-n.invariant c.requires) in
     omega arith
 
-pub regrow-one-x-requires : goal.regrow-one-x-requires
-regrow-one-x-requires g c =
+pub regrow_one-x-requires : goal.regrow_one-x-requires
+regrow_one-x-requires g c =
     joinable (g.K.Kind.meaning c.args.kind.now) c.args.flip c.args.cells.now c.args.pool.now c.args.low c.args.table.now c.args.top c.requires c.loop-n.cells c.loop-n.pool c.loop-n.x c.loop-n.n (c.loop-n.n - 1) (omega (arith, c.loop-n-test.true)) (c.loop-n.invariant c.requires)
 
 pub loop-n-preserved : goal.loop-n-preserved
 loop-n-preserved g c = λ grows.
-    regrowing_more (g.K.Kind.meaning c.args.kind.now) c.args.flip c.args.cells.now c.args.pool.now c.args.low c.args.table.now c.args.top grows c.loop-n.cells c.loop-n.pool c.loop-n.x c.loop-n.n (c.loop-n.n - 1) (omega (arith, c.loop-n-test.true)) (c.loop-n.invariant grows) c.regrow-one-x.new.cells c.regrow-one-x.new.pool c.regrow-one-x.result c.regrow-one-x.ensures
+    regrowing_more (g.K.Kind.meaning c.args.kind.now) c.args.flip c.args.cells.now c.args.pool.now c.args.low c.args.table.now c.args.top grows c.loop-n.cells c.loop-n.pool c.loop-n.x c.loop-n.n (c.loop-n.n - 1) (omega (arith, c.loop-n-test.true)) (c.loop-n.invariant grows) c.regrow_one-x.new.cells c.regrow_one-x.new.pool c.regrow_one-x.result c.regrow_one-x.ensures
 
 pub returns : goal.returns
 returns g c = regrowing_end (g.K.Kind.meaning c.args.kind.now) c.args.flip c.args.cells.now c.args.pool.now c.args.low c.args.table.now c.args.top c.requires c.loop-n.cells c.loop-n.pool c.loop-n.x c.loop-n.n c.loop-n-test.false (c.loop-n.invariant c.requires)

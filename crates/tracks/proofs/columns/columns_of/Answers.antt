@@ -12,8 +12,8 @@ use Rattle.tracks.proofs.Owned.{owned_live, span_extent}
 use Rattle.tracks.proofs.Pieces.{err_made}
 use Rattle.tracks.proofs.columns.columns_of.Goals as goal
 
-pub width-at-extent-requires : goal.width-at-extent-requires
-width-at-extent-requires g c = record {
+pub width_at-extent-requires : goal.width_at-extent-requires
+width_at-extent-requires g c = record {
   sound = c.requires.arena.sound;
   live = owned_live (g.K.Kind.meaning c.args.kind.now) c.args.cells.now c.args.pool.now c.requires.rest c.requires.arena c.args.root (c.requires.kept c.args.root (let h = hit_same c.args.root in omega arith));
 }
@@ -21,24 +21,24 @@ width-at-extent-requires g c = record {
 pub stretch-requires : goal.stretch-requires
 stretch-requires g c = record {
   owns = c.requires;
-  order = omega (arith, c.loop-i.invariant.0, c.edge-of-to.ensures.place, edge_rises c.width-at-extent.result c.args.n c.loop-i.i (omega arith));
-  inside = omega (arith, c.edge-of-to.ensures.inside, (c.width-at-extent.ensures ∙ span_extent (g.K.Kind.meaning c.args.kind.now) c.args.cells.now c.args.root));
+  order = omega (arith, c.loop-i.invariant.0, c.edge_of-to.ensures.place, edge_rises c.width_at-extent.result c.args.n c.loop-i.i (omega arith));
+  inside = omega (arith, c.edge_of-to.ensures.inside, (c.width_at-extent.ensures ∙ span_extent (g.K.Kind.meaning c.args.kind.now) c.args.cells.now c.args.root));
 }
 
 pub loop-i-preserved : goal.loop-i-preserved
 loop-i-preserved g c =
-    let long : c.width-at-extent.result ≡ length (atoms_of (g.K.Kind.meaning c.args.kind.now) (list c.args.cells.now c.args.root)) = (c.width-at-extent.ensures ∙ span_extent (g.K.Kind.meaning c.args.kind.now) c.args.cells.now c.args.root) ∙ extent_counts (g.K.Kind.meaning c.args.kind.now) (list c.args.cells.now c.args.root) in
-    let this : between (g.K.Kind.meaning c.args.kind.now) (atoms_of (g.K.Kind.meaning c.args.kind.now) (list c.args.cells.now c.args.root)) c.loop-i.from c.edge-of-to.result ≡ column (g.K.Kind.meaning c.args.kind.now) (atoms_of (g.K.Kind.meaning c.args.kind.now) (list c.args.cells.now c.args.root)) c.args.n c.loop-i.i =
-    ap (λ f. between (g.K.Kind.meaning c.args.kind.now) (atoms_of (g.K.Kind.meaning c.args.kind.now) (list c.args.cells.now c.args.root)) f c.edge-of-to.result) (c.loop-i.invariant.0 ∙ ap (λ x. edge x c.args.n c.loop-i.i) long)
-    ∙ ap (between (g.K.Kind.meaning c.args.kind.now) (atoms_of (g.K.Kind.meaning c.args.kind.now) (list c.args.cells.now c.args.root)) (edge (length (atoms_of (g.K.Kind.meaning c.args.kind.now) (list c.args.cells.now c.args.root))) c.args.n c.loop-i.i)) (c.edge-of-to.ensures.place ∙ ap (λ x. edge x c.args.n (c.loop-i.i + 1)) long) in (
-      c.edge-of-to.ensures.place,
-      pushed (c.stretch.result ∷ []) c.loop-i.invariant.1 c.in-ok-push.was c.push.ensures.items
+    let long : c.width_at-extent.result ≡ length (atoms_of (g.K.Kind.meaning c.args.kind.now) (list c.args.cells.now c.args.root)) = (c.width_at-extent.ensures ∙ span_extent (g.K.Kind.meaning c.args.kind.now) c.args.cells.now c.args.root) ∙ extent_counts (g.K.Kind.meaning c.args.kind.now) (list c.args.cells.now c.args.root) in
+    let this : between (g.K.Kind.meaning c.args.kind.now) (atoms_of (g.K.Kind.meaning c.args.kind.now) (list c.args.cells.now c.args.root)) c.loop-i.from c.edge_of-to.result ≡ column (g.K.Kind.meaning c.args.kind.now) (atoms_of (g.K.Kind.meaning c.args.kind.now) (list c.args.cells.now c.args.root)) c.args.n c.loop-i.i =
+    ap (λ f. between (g.K.Kind.meaning c.args.kind.now) (atoms_of (g.K.Kind.meaning c.args.kind.now) (list c.args.cells.now c.args.root)) f c.edge_of-to.result) (c.loop-i.invariant.0 ∙ ap (λ x. edge x c.args.n c.loop-i.i) long)
+    ∙ ap (between (g.K.Kind.meaning c.args.kind.now) (atoms_of (g.K.Kind.meaning c.args.kind.now) (list c.args.cells.now c.args.root)) (edge (length (atoms_of (g.K.Kind.meaning c.args.kind.now) (list c.args.cells.now c.args.root))) c.args.n c.loop-i.i)) (c.edge_of-to.ensures.place ∙ ap (λ x. edge x c.args.n (c.loop-i.i + 1)) long) in (
+      c.edge_of-to.ensures.place,
+      pushed (c.stretch.result ∷ []) c.loop-i.invariant.1 c.in_ok-push.was c.push.ensures.items
           ∙ ap (λ s. map (column (g.K.Kind.meaning c.args.kind.now) (atoms_of (g.K.Kind.meaning c.args.kind.now) (list c.args.cells.now c.args.root)) c.args.n) (range_with_len 0 c.loop-i.i) ++ (s ∷ [])) (c.stretch.ensures ∙ this)
           ∙ sym (map-range_with_len_more (column (g.K.Kind.meaning c.args.kind.now) (atoms_of (g.K.Kind.meaning c.args.kind.now) (list c.args.cells.now c.args.root)) c.args.n) 0 c.loop-i.i c.loop-i.i (omega arith)),
     )
 
-pub returns-in-err-push : goal.returns-in-err-push
-returns-in-err-push g c = err_made c.from-residual.result _ c.from-residual.ensures.0
+pub returns-in_err-push : goal.returns-in_err-push
+returns-in_err-push g c = err_made c.from-residual.result _ c.from-residual.ensures.0
 
 pub returns : goal.returns
 returns g c =

@@ -3,25 +3,25 @@ use Rattle.tracks.proofs.Versions.{carried_to, stopped_piece, owns_b, some_b, st
 use Rattle.tracks.proofs.rearranging.keep.Goals as goal
 
 pub returns-in-Some : goal.returns-in-Some
-returns-in-Some g c = stopped_piece (g.K.Kind.meaning c.args.kind.now) c.args.pieces.now c.args.from c.args.len c.args.to c.args.cells.now c.args.pool.now c.requires.arena c.requires.some c.lay-all-track.new.cells c.lay-all-track.new.pool c.lay-all-track.result c.lay-all-track.ensures c.in-Some.fault c.in-Some.is c.lay-all-track.auto.cells
+returns-in-Some g c = stopped_piece (g.K.Kind.meaning c.args.kind.now) c.args.pieces.now c.args.from c.args.len c.args.to c.args.cells.now c.args.pool.now c.requires.arena c.requires.some c.lay_all-track.new.cells c.lay_all-track.new.pool c.lay_all-track.result c.lay_all-track.ensures c.in-Some.fault c.in-Some.is c.lay_all-track.auto.cells
 
-pub take-out-requires : goal.take-out-requires
-take-out-requires g c = record { owns = owns_b (g.K.Kind.meaning c.args.kind.now) c.args.pieces.now c.args.from c.args.len c.args.to c.args.cells.now c.args.pool.now c.requires.arena c.requires.some c.lay-all-track.new.cells c.lay-all-track.new.pool c.lay-all-track.result c.lay-all-track.ensures c.in-default.is c.lay-all-track.auto.cells; few = c.lay-all-track.ensures.few; some = some_b (g.K.Kind.meaning c.args.kind.now) c.args.pieces.now c.args.from c.args.len c.args.to c.args.cells.now c.args.pool.now c.requires.arena c.requires.some c.lay-all-track.new.cells c.lay-all-track.new.pool c.lay-all-track.result c.lay-all-track.ensures c.in-default.is c.lay-all-track.auto.cells }
+pub take_out-requires : goal.take_out-requires
+take_out-requires g c = record { owns = owns_b (g.K.Kind.meaning c.args.kind.now) c.args.pieces.now c.args.from c.args.len c.args.to c.args.cells.now c.args.pool.now c.requires.arena c.requires.some c.lay_all-track.new.cells c.lay_all-track.new.pool c.lay_all-track.result c.lay_all-track.ensures c.in_default.is c.lay_all-track.auto.cells; few = c.lay_all-track.ensures.few; some = some_b (g.K.Kind.meaning c.args.kind.now) c.args.pieces.now c.args.from c.args.len c.args.to c.args.cells.now c.args.pool.now c.requires.arena c.requires.some c.lay_all-track.new.cells c.lay_all-track.new.pool c.lay_all-track.result c.lay_all-track.ensures c.in_default.is c.lay_all-track.auto.cells }
 
-pub returns-in-err-parts : goal.returns-in-err-parts
-returns-in-err-parts g c =
-    carried_to c.from-residual.result c.in-err-parts.field-0.0 _ _ c.from-residual.ensures.0 c.from-residual.ensures.1
-    (stopped_cut (g.K.Kind.meaning c.args.kind.now) c.args.pieces.now c.args.from c.args.len c.args.to c.args.cells.now c.args.pool.now c.requires.arena c.requires.some c.lay-all-track.new.cells c.lay-all-track.new.pool c.lay-all-track.result c.lay-all-track.ensures c.in-default.is c.lay-all-track.auto.cells c.take-out.new.cells c.take-out.new.pool c.in-err-parts.field-0.0 c.in-err-parts.ensures)
+pub returns-in_err-parts : goal.returns-in_err-parts
+returns-in_err-parts g c =
+    carried_to c.from-residual.result c.in_err-parts.field-0.0 _ _ c.from-residual.ensures.0 c.from-residual.ensures.1
+    (stopped_cut (g.K.Kind.meaning c.args.kind.now) c.args.pieces.now c.args.from c.args.len c.args.to c.args.cells.now c.args.pool.now c.requires.arena c.requires.some c.lay_all-track.new.cells c.lay_all-track.new.pool c.lay_all-track.result c.lay_all-track.ensures c.in_default.is c.lay_all-track.auto.cells c.take_out.new.cells c.take_out.new.pool c.in_err-parts.field-0.0 c.in_err-parts.ensures)
 
-pub put-in-requires : goal.put-in-requires
-put-in-requires g c = record { owns = owns_c (g.K.Kind.meaning c.args.kind.now) c.args.pieces.now c.args.from c.args.len c.args.to c.args.cells.now c.args.pool.now c.requires.arena c.requires.some c.lay-all-track.new.cells c.lay-all-track.new.pool c.lay-all-track.result c.lay-all-track.ensures c.in-default.is c.lay-all-track.auto.cells c.take-out.new.cells c.take-out.new.pool c.in-ok-parts.parts c.in-ok-parts.ensures (c.take-out.auto.cells ∙ c.lay-all-track.auto.cells); some = some_c (g.K.Kind.meaning c.args.kind.now) c.args.pieces.now c.args.from c.args.len c.args.to c.args.cells.now c.args.pool.now c.requires.arena c.requires.some c.lay-all-track.new.cells c.lay-all-track.new.pool c.lay-all-track.result c.lay-all-track.ensures c.in-default.is c.lay-all-track.auto.cells c.take-out.new.cells c.take-out.new.pool c.in-ok-parts.parts c.in-ok-parts.ensures (c.take-out.auto.cells ∙ c.lay-all-track.auto.cells) }
+pub put_in-requires : goal.put_in-requires
+put_in-requires g c = record { owns = owns_c (g.K.Kind.meaning c.args.kind.now) c.args.pieces.now c.args.from c.args.len c.args.to c.args.cells.now c.args.pool.now c.requires.arena c.requires.some c.lay_all-track.new.cells c.lay_all-track.new.pool c.lay_all-track.result c.lay_all-track.ensures c.in_default.is c.lay_all-track.auto.cells c.take_out.new.cells c.take_out.new.pool c.in_ok-parts.parts c.in_ok-parts.ensures (c.take_out.auto.cells ∙ c.lay_all-track.auto.cells); some = some_c (g.K.Kind.meaning c.args.kind.now) c.args.pieces.now c.args.from c.args.len c.args.to c.args.cells.now c.args.pool.now c.requires.arena c.requires.some c.lay_all-track.new.cells c.lay_all-track.new.pool c.lay_all-track.result c.lay_all-track.ensures c.in_default.is c.lay_all-track.auto.cells c.take_out.new.cells c.take_out.new.pool c.in_ok-parts.parts c.in_ok-parts.ensures (c.take_out.auto.cells ∙ c.lay_all-track.auto.cells) }
 
-pub returns-in-err-moved : goal.returns-in-err-moved
-returns-in-err-moved g c =
-    carried_to c.from-residual-in-err-moved.result c.in-err-moved.field-0.0 _ _ c.from-residual-in-err-moved.ensures.0 c.from-residual-in-err-moved.ensures.1
-    (stopped_paste (g.K.Kind.meaning c.args.kind.now) c.args.pieces.now c.args.from c.args.len c.args.to c.args.cells.now c.args.pool.now c.requires.arena c.requires.some c.lay-all-track.new.cells c.lay-all-track.new.pool c.lay-all-track.result c.lay-all-track.ensures c.in-default.is c.lay-all-track.auto.cells c.take-out.new.cells c.take-out.new.pool c.in-ok-parts.parts c.in-ok-parts.ensures (c.take-out.auto.cells ∙ c.lay-all-track.auto.cells) c.put-in.new.cells c.put-in.new.pool c.in-err-moved.field-0.0 c.in-err-moved.ensures)
+pub returns-in_err-moved : goal.returns-in_err-moved
+returns-in_err-moved g c =
+    carried_to c.from-residual-in_err-moved.result c.in_err-moved.field-0.0 _ _ c.from-residual-in_err-moved.ensures.0 c.from-residual-in_err-moved.ensures.1
+    (stopped_paste (g.K.Kind.meaning c.args.kind.now) c.args.pieces.now c.args.from c.args.len c.args.to c.args.cells.now c.args.pool.now c.requires.arena c.requires.some c.lay_all-track.new.cells c.lay_all-track.new.pool c.lay_all-track.result c.lay_all-track.ensures c.in_default.is c.lay_all-track.auto.cells c.take_out.new.cells c.take_out.new.pool c.in_ok-parts.parts c.in_ok-parts.ensures (c.take_out.auto.cells ∙ c.lay_all-track.auto.cells) c.put_in.new.cells c.put_in.new.pool c.in_err-moved.field-0.0 c.in_err-moved.ensures)
 
 pub returns : goal.returns
 returns g c =
-    kept_all (g.K.Kind.meaning c.args.kind.now) c.args.pieces.now c.args.from c.args.len c.args.to c.args.cells.now c.args.pool.now c.requires.arena c.requires.some c.lay-all-track.new.cells c.lay-all-track.new.pool c.lay-all-track.result c.lay-all-track.ensures c.in-default.is c.lay-all-track.auto.cells c.take-out.new.cells c.take-out.new.pool c.in-ok-parts.parts c.in-ok-parts.ensures (c.take-out.auto.cells ∙ c.lay-all-track.auto.cells) c.put-in.new.cells c.put-in.new.pool c.in-ok-moved.moved c.in-ok-moved.ensures c.saturating-sub.result c.saturating-sub-2.result c.saturating-sub-3.result
-    c.saturating-sub.ensures c.saturating-sub-2.ensures c.saturating-sub-3.ensures
+    kept_all (g.K.Kind.meaning c.args.kind.now) c.args.pieces.now c.args.from c.args.len c.args.to c.args.cells.now c.args.pool.now c.requires.arena c.requires.some c.lay_all-track.new.cells c.lay_all-track.new.pool c.lay_all-track.result c.lay_all-track.ensures c.in_default.is c.lay_all-track.auto.cells c.take_out.new.cells c.take_out.new.pool c.in_ok-parts.parts c.in_ok-parts.ensures (c.take_out.auto.cells ∙ c.lay_all-track.auto.cells) c.put_in.new.cells c.put_in.new.pool c.in_ok-moved.moved c.in_ok-moved.ensures c.saturating_sub.result c.saturating_sub-2.result c.saturating_sub-3.result
+    c.saturating_sub.ensures c.saturating_sub-2.ensures c.saturating_sub-3.ensures

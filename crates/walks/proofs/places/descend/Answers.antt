@@ -9,13 +9,13 @@ loop-at-init g c =
     let right_long : length c.args.rights.now ≡ 64 = search rules in
     start (g.K.Kind.meaning c.args.kind.now) c.args.cells.now c.requires.sound c.args.root c.args.place c.args.lefts.now c.args.rights.now c.requires.live c.requires.within left_long right_long
 
-pub cell-at-c-requires : goal.cell-at-c-requires
-cell-at-c-requires g c = descent_named (g.K.Kind.meaning c.args.kind.now) c.args.cells.now c.requires.sound _ _ _ _ _ _ _ _ c.loop-at.invariant
+pub cell_at-c-requires : goal.cell_at-c-requires
+cell_at-c-requires g c = descent_named (g.K.Kind.meaning c.args.kind.now) c.args.cells.now c.requires.sound _ _ _ _ _ _ _ _ c.loop-at.invariant
 
-pub width-at-before-requires : goal.width-at-before-requires
-width-at-before-requires g c = record {
+pub width_at-before-requires : goal.width_at-before-requires
+width_at-before-requires g c = record {
   sound = c.requires.sound;
-  live = (descent_good (g.K.Kind.meaning c.args.kind.now) c.args.cells.now c.requires.sound _ _ _ _ _ _ _ _ c.loop-at.invariant c.cell-at-c.result c.cell-at-c.ensures).left_live;
+  live = (descent_good (g.K.Kind.meaning c.args.kind.now) c.args.cells.now c.requires.sound _ _ _ _ _ _ _ _ c.loop-at.invariant c.cell_at-c.result c.cell_at-c.ensures).left_live;
 }
 
 pub bounds-lefts-l : goal.bounds-lefts-l
@@ -28,29 +28,29 @@ bounds-rights-r g c =
 
 pub loop-at-smaller-then-at-before : goal.loop-at-smaller-then-at-before
 loop-at-smaller-then-at-before g c =
-    omega (arith, node_count (g.K.Kind.meaning c.args.kind.now) c.args.cells.now c.requires.sound _ c.cell-at-c.result c.cell-at-c.ensures c.loop-at.invariant.live)
+    omega (arith, node_count (g.K.Kind.meaning c.args.kind.now) c.args.cells.now c.requires.sound _ c.cell_at-c.result c.cell_at-c.ensures c.loop-at.invariant.live)
 
 pub loop-at-smaller : goal.loop-at-smaller
 loop-at-smaller g c =
-    omega (arith, node_count (g.K.Kind.meaning c.args.kind.now) c.args.cells.now c.requires.sound _ c.cell-at-c.result c.cell-at-c.ensures c.loop-at.invariant.live)
+    omega (arith, node_count (g.K.Kind.meaning c.args.kind.now) c.args.cells.now c.requires.sound _ c.cell_at-c.result c.cell_at-c.ensures c.loop-at.invariant.live)
 
 pub loop-at-preserved-then-at-before : goal.loop-at-preserved-then-at-before
 loop-at-preserved-then-at-before g c =
     let k = g.K.Kind.meaning c.args.kind.now in
     let v = c.loop-at.invariant in
-    go_left k c.args.cells.now c.requires.sound _ _ _ _ _ _ _ _ v c.cell-at-c.result c.cell-at-c.ensures
+    go_left k c.args.cells.now c.requires.sound _ _ _ _ _ _ _ _ v c.cell_at-c.result c.cell_at-c.ensures
     (descent_short k c.args.cells.now c.requires.sound _ _ _ _ _ _ _ _ v c.requires.live c.requires.few)
-    (omega (arith, c.width-at-before.ensures, c.if-at-before.true))
+    (omega (arith, c.width_at-before.ensures, c.if-at-before.true))
 
 pub returns-then-past-own : goal.returns-then-past-own
 returns-then-past-own g c =
     let k = g.K.Kind.meaning c.args.kind.now in
     let v = c.loop-at.invariant in
-    let own = c.extent-own.ensures (descent_good k c.args.cells.now c.requires.sound _ _ _ _ _ _ _ _ v c.cell-at-c.result c.cell-at-c.ensures).lawful in
+    let own = c.extent-own.ensures (descent_good k c.args.cells.now c.requires.sound _ _ _ _ _ _ _ _ v c.cell_at-c.result c.cell_at-c.ensures).lawful in
     record {
       walked =
-          arrive k c.args.cells.now c.requires.sound _ _ _ _ _ _ _ _ v c.cell-at-c.result c.cell-at-c.ensures (c.loop-at.at - c.width-at-before.result)
-          c.requires.live c.requires.few (omega (arith, c.width-at-before.ensures, c.if-at-before.false)) (omega (arith, own, c.if-past-own.true));
+          arrive k c.args.cells.now c.requires.sound _ _ _ _ _ _ _ _ v c.cell_at-c.result c.cell_at-c.ensures (c.loop-at.at - c.width_at-before.result)
+          c.requires.live c.requires.few (omega (arith, c.width_at-before.ensures, c.if-at-before.false)) (omega (arith, own, c.if-past-own.true));
       beyond = (v.left_filled.beyond, v.right_filled.beyond);
     }
 
@@ -58,7 +58,7 @@ pub loop-at-preserved : goal.loop-at-preserved
 loop-at-preserved g c =
     let k = g.K.Kind.meaning c.args.kind.now in
     let v = c.loop-at.invariant in
-    let own = c.extent-own.ensures (descent_good k c.args.cells.now c.requires.sound _ _ _ _ _ _ _ _ v c.cell-at-c.result c.cell-at-c.ensures).lawful in
-    go_right k c.args.cells.now c.requires.sound _ _ _ _ _ _ _ _ v c.cell-at-c.result c.cell-at-c.ensures (c.loop-at.at - c.width-at-before.result - c.extent-own.result)
+    let own = c.extent-own.ensures (descent_good k c.args.cells.now c.requires.sound _ _ _ _ _ _ _ _ v c.cell_at-c.result c.cell_at-c.ensures).lawful in
+    go_right k c.args.cells.now c.requires.sound _ _ _ _ _ _ _ _ v c.cell_at-c.result c.cell_at-c.ensures (c.loop-at.at - c.width_at-before.result - c.extent-own.result)
     (descent_short k c.args.cells.now c.requires.sound _ _ _ _ _ _ _ _ v c.requires.live c.requires.few)
-    (omega (arith, own, c.width-at-before.ensures, c.if-at-before.false, c.if-past-own.false))
+    (omega (arith, own, c.width_at-before.ensures, c.if-at-before.false, c.if-past-own.false))

@@ -3,36 +3,36 @@ use Rattle.walks.proofs.Nodes.{node_good, node_count}
 use Rattle.walks.proofs.Summing.{tail_none, tail_start, tail_named, tail_whole, tail_left, tail_own, tail_right}
 use Rattle.walks.proofs.ranges.tail_summary.Goals as goal
 
-pub returns-then-from-width-at : goal.returns-then-from-width-at
-returns-then-from-width-at g c = tail_none (g.K.Kind.meaning c.args.kind.now) (g.K.Kind.laws c.args.kind.now) c.args.cells.now c.requires.sound _ _ _ c.empty-sum.ensures (c.if-from-width-at.true ∙ c.width-at.ensures)
+pub returns-then-from-width_at : goal.returns-then-from-width_at
+returns-then-from-width_at g c = tail_none (g.K.Kind.meaning c.args.kind.now) (g.K.Kind.laws c.args.kind.now) c.args.cells.now c.requires.sound _ _ _ c.empty-sum.ensures (c.if-from-width_at.true ∙ c.width_at.ensures)
 
 pub loop-at-init : goal.loop-at-init
 loop-at-init g c = tail_start (g.K.Kind.meaning c.args.kind.now) (g.K.Kind.laws c.args.kind.now) c.args.cells.now c.requires.sound _ _ _ c.requires.live c.requires.within c.empty-sum.ensures
 
 pub returns-then-at-eq0 : goal.returns-then-at-eq0
-returns-then-at-eq0 g c = tail_whole (g.K.Kind.meaning c.args.kind.now) (g.K.Kind.laws c.args.kind.now) c.args.cells.now c.requires.sound _ _ _ _ _ c.requires.live c.loop-at.invariant _ _ c.if-at-eq0.true c.summary-at.ensures c.join.ensures
+returns-then-at-eq0 g c = tail_whole (g.K.Kind.meaning c.args.kind.now) (g.K.Kind.laws c.args.kind.now) c.args.cells.now c.requires.sound _ _ _ _ _ c.requires.live c.loop-at.invariant _ _ c.if-at-eq0.true c.summary_at.ensures c.join.ensures
 
-pub cell-at-c-requires : goal.cell-at-c-requires
-cell-at-c-requires g c = tail_named (g.K.Kind.meaning c.args.kind.now) (g.K.Kind.laws c.args.kind.now) c.args.cells.now c.requires.sound _ _ _ _ _ c.requires.live c.loop-at.invariant (omega (arith, c.if-at-eq0.false))
+pub cell_at-c-requires : goal.cell_at-c-requires
+cell_at-c-requires g c = tail_named (g.K.Kind.meaning c.args.kind.now) (g.K.Kind.laws c.args.kind.now) c.args.cells.now c.requires.sound _ _ _ _ _ c.requires.live c.loop-at.invariant (omega (arith, c.if-at-eq0.false))
 
-pub width-at-before-requires : goal.width-at-before-requires
-width-at-before-requires g c = record {
+pub width_at-before-requires : goal.width_at-before-requires
+width_at-before-requires g c = record {
   sound = c.requires.sound;
-  live = (node_good (g.K.Kind.meaning c.args.kind.now) c.args.cells.now c.requires.sound _ c.cell-at-c.result c.cell-at-c.ensures c.loop-at.invariant.live).left_live;
+  live = (node_good (g.K.Kind.meaning c.args.kind.now) c.args.cells.now c.requires.sound _ c.cell_at-c.result c.cell_at-c.ensures c.loop-at.invariant.live).left_live;
 }
 
 pub loop-at-smaller-then-at-before : goal.loop-at-smaller-then-at-before
 loop-at-smaller-then-at-before g c =
-    omega (arith, node_count (g.K.Kind.meaning c.args.kind.now) c.args.cells.now c.requires.sound _ c.cell-at-c.result c.cell-at-c.ensures c.loop-at.invariant.live)
+    omega (arith, node_count (g.K.Kind.meaning c.args.kind.now) c.args.cells.now c.requires.sound _ c.cell_at-c.result c.cell_at-c.ensures c.loop-at.invariant.live)
 
 pub loop-at-preserved-then-at-before : goal.loop-at-preserved-then-at-before
 loop-at-preserved-then-at-before g c =
-    tail_left (g.K.Kind.meaning c.args.kind.now) (g.K.Kind.laws c.args.kind.now) c.args.cells.now c.requires.sound _ _ _ _ _ c.requires.live c.loop-at.invariant c.cell-at-c.result c.cell-at-c.ensures _ _ _
-    (omega (arith, c.if-at-before.true, c.width-at-before.ensures)) c.summary-at-then-at-before.ensures c.join-then-at-before.ensures c.join-sum.ensures
+    tail_left (g.K.Kind.meaning c.args.kind.now) (g.K.Kind.laws c.args.kind.now) c.args.cells.now c.requires.sound _ _ _ _ _ c.requires.live c.loop-at.invariant c.cell_at-c.result c.cell_at-c.ensures _ _ _
+    (omega (arith, c.if-at-before.true, c.width_at-before.ensures)) c.summary_at-then-at-before.ensures c.join-then-at-before.ensures c.join-sum.ensures
 
 pub piece-requires : goal.piece-requires
 piece-requires g c =
-    let good = node_good (g.K.Kind.meaning c.args.kind.now) c.args.cells.now c.requires.sound _ c.cell-at-c.result c.cell-at-c.ensures c.loop-at.invariant.live in
+    let good = node_good (g.K.Kind.meaning c.args.kind.now) c.args.cells.now c.requires.sound _ c.cell_at-c.result c.cell_at-c.ensures c.loop-at.invariant.live in
     let own = c.extent-own.ensures good.lawful in
     record {
       lawful = good.lawful;
@@ -42,16 +42,16 @@ piece-requires g c =
 
 pub returns-then-past-own : goal.returns-then-past-own
 returns-then-past-own g c =
-    let own = c.extent-own.ensures (node_good (g.K.Kind.meaning c.args.kind.now) c.args.cells.now c.requires.sound _ c.cell-at-c.result c.cell-at-c.ensures c.loop-at.invariant.live).lawful in
-    tail_own (g.K.Kind.meaning c.args.kind.now) (g.K.Kind.laws c.args.kind.now) c.args.cells.now c.requires.sound _ _ _ _ _ c.requires.live c.loop-at.invariant c.cell-at-c.result c.cell-at-c.ensures (c.loop-at.at - c.width-at-before.result) _ _ _ _ _
-    (omega (arith, c.if-at-before.false, c.width-at-before.ensures)) (omega (arith, own, c.if-past-own.true)) (omega (arith, own))
-    c.piece.ensures c.summary-at-then-past-own.ensures c.join-then-past-own.ensures c.join-then-past-own-2.ensures
+    let own = c.extent-own.ensures (node_good (g.K.Kind.meaning c.args.kind.now) c.args.cells.now c.requires.sound _ c.cell_at-c.result c.cell_at-c.ensures c.loop-at.invariant.live).lawful in
+    tail_own (g.K.Kind.meaning c.args.kind.now) (g.K.Kind.laws c.args.kind.now) c.args.cells.now c.requires.sound _ _ _ _ _ c.requires.live c.loop-at.invariant c.cell_at-c.result c.cell_at-c.ensures (c.loop-at.at - c.width_at-before.result) _ _ _ _ _
+    (omega (arith, c.if-at-before.false, c.width_at-before.ensures)) (omega (arith, own, c.if-past-own.true)) (omega (arith, own))
+    c.piece.ensures c.summary_at-then-past-own.ensures c.join-then-past-own.ensures c.join-then-past-own-2.ensures
 
 pub loop-at-smaller : goal.loop-at-smaller
 loop-at-smaller g c =
-    omega (arith, node_count (g.K.Kind.meaning c.args.kind.now) c.args.cells.now c.requires.sound _ c.cell-at-c.result c.cell-at-c.ensures c.loop-at.invariant.live)
+    omega (arith, node_count (g.K.Kind.meaning c.args.kind.now) c.args.cells.now c.requires.sound _ c.cell_at-c.result c.cell_at-c.ensures c.loop-at.invariant.live)
 
 pub loop-at-preserved : goal.loop-at-preserved
 loop-at-preserved g c =
-    let own = c.extent-own.ensures (node_good (g.K.Kind.meaning c.args.kind.now) c.args.cells.now c.requires.sound _ c.cell-at-c.result c.cell-at-c.ensures c.loop-at.invariant.live).lawful in
-    tail_right (g.K.Kind.meaning c.args.kind.now) (g.K.Kind.laws c.args.kind.now) c.args.cells.now c.requires.sound _ _ _ _ _ c.requires.live c.loop-at.invariant c.cell-at-c.result c.cell-at-c.ensures _ (omega (arith, own, c.if-at-before.false, c.if-past-own.false, c.width-at-before.ensures))
+    let own = c.extent-own.ensures (node_good (g.K.Kind.meaning c.args.kind.now) c.args.cells.now c.requires.sound _ c.cell_at-c.result c.cell_at-c.ensures c.loop-at.invariant.live).lawful in
+    tail_right (g.K.Kind.meaning c.args.kind.now) (g.K.Kind.laws c.args.kind.now) c.args.cells.now c.requires.sound _ _ _ _ _ c.requires.live c.loop-at.invariant c.cell_at-c.result c.cell_at-c.ensures _ (omega (arith, own, c.if-at-before.false, c.if-past-own.false, c.width_at-before.ensures))

@@ -9,13 +9,13 @@ loop-rest-init g c =
     sought_start (g.K.Kind.meaning c.args.kind.now) (g.K.Kind.laws c.args.kind.now) (g.K.Tally.tallied c.args.kind.now) c.requires.adds c.args.cells.now c.requires.sound
     c.args.root c.args.t c.requires.live c.requires.below
 
-pub cell-at-c-requires : goal.cell-at-c-requires
-cell-at-c-requires g c =
+pub cell_at-c-requires : goal.cell_at-c-requires
+cell_at-c-requires g c =
     sought_named (g.K.Kind.meaning c.args.kind.now) (g.K.Kind.laws c.args.kind.now) (g.K.Tally.tallied c.args.kind.now) c.requires.adds c.args.cells.now c.requires.sound
     _ _ _ _ _ _ c.requires.live c.loop-rest.invariant
 
-pub overflow-add-count : goal.overflow-add-count
-overflow-add-count g c =
+pub overflow_add-count : goal.overflow_add-count
+overflow_add-count g c =
     omega (
       arith,
       sought_short (g.K.Kind.meaning c.args.kind.now) (g.K.Kind.laws c.args.kind.now) (g.K.Tally.tallied c.args.kind.now) c.requires.adds c.args.cells.now c.requires.sound
@@ -24,69 +24,69 @@ overflow-add-count g c =
 
 pub loop-rest-smaller-then-rest-before : goal.loop-rest-smaller-then-rest-before
 loop-rest-smaller-then-rest-before g c =
-    omega (arith, node_count (g.K.Kind.meaning c.args.kind.now) c.args.cells.now c.requires.sound _ c.cell-at-c.result c.cell-at-c.ensures c.loop-rest.invariant.live)
+    omega (arith, node_count (g.K.Kind.meaning c.args.kind.now) c.args.cells.now c.requires.sound _ c.cell_at-c.result c.cell_at-c.ensures c.loop-rest.invariant.live)
 
 pub loop-rest-smaller : goal.loop-rest-smaller
 loop-rest-smaller g c =
-    omega (arith, node_count (g.K.Kind.meaning c.args.kind.now) c.args.cells.now c.requires.sound _ c.cell-at-c.result c.cell-at-c.ensures c.loop-rest.invariant.live)
+    omega (arith, node_count (g.K.Kind.meaning c.args.kind.now) c.args.cells.now c.requires.sound _ c.cell_at-c.result c.cell_at-c.ensures c.loop-rest.invariant.live)
 
 pub loop-rest-preserved-then-rest-before : goal.loop-rest-preserved-then-rest-before
 loop-rest-preserved-then-rest-before g c =
     let k = g.K.Kind.meaning c.args.kind.now in
     let laws = g.K.Kind.laws c.args.kind.now in
     let tally = g.K.Tally.tallied c.args.kind.now in
-    let good = node_good k c.args.cells.now c.requires.sound _ c.cell-at-c.result c.cell-at-c.ensures c.loop-rest.invariant.live in
-    let sum = c.summary-at-left.ensures ∙ sum_is k laws c.args.cells.now c.requires.sound _ good.left_live in
-    sought_left k laws tally c.requires.adds c.args.cells.now c.requires.sound _ _ _ _ _ _ c.requires.live c.loop-rest.invariant c.cell-at-c.result c.cell-at-c.ensures
+    let good = node_good k c.args.cells.now c.requires.sound _ c.cell_at-c.result c.cell_at-c.ensures c.loop-rest.invariant.live in
+    let sum = c.summary_at-left.ensures ∙ sum_is k laws c.args.cells.now c.requires.sound _ good.left_live in
+    sought_left k laws tally c.requires.adds c.args.cells.now c.requires.sound _ _ _ _ _ _ c.requires.live c.loop-rest.invariant c.cell_at-c.result c.cell_at-c.ensures
     (omega (arith, c.if-rest-before.true, c.tally-before.ensures.value, ap tally sum))
 
-pub overflow-add-start : goal.overflow-add-start
-overflow-add-start g c =
+pub overflow_add-start : goal.overflow_add-start
+overflow_add-start g c =
     let k = g.K.Kind.meaning c.args.kind.now in
     let laws = g.K.Kind.laws c.args.kind.now in
-    let good = node_good k c.args.cells.now c.requires.sound _ c.cell-at-c.result c.cell-at-c.ensures c.loop-rest.invariant.live in
-    let width = c.width.ensures ∙ ap k.width c.summary-at-left.ensures ∙ width_is k laws c.args.cells.now c.requires.sound _ good.left_live in
+    let good = node_good k c.args.cells.now c.requires.sound _ c.cell_at-c.result c.cell_at-c.ensures c.loop-rest.invariant.live in
+    let width = c.width.ensures ∙ ap k.width c.summary_at-left.ensures ∙ width_is k laws c.args.cells.now c.requires.sound _ good.left_live in
     omega (
       arith,
       width,
-      sought_few k laws (g.K.Tally.tallied c.args.kind.now) c.requires.adds c.args.cells.now c.requires.sound _ _ _ _ _ _ c.requires.live c.loop-rest.invariant c.cell-at-c.result c.cell-at-c.ensures,
+      sought_few k laws (g.K.Tally.tallied c.args.kind.now) c.requires.adds c.args.cells.now c.requires.sound _ _ _ _ _ _ c.requires.live c.loop-rest.invariant c.cell_at-c.result c.cell_at-c.ensures,
     )
 
-pub find-within-requires : goal.find-within-requires
-find-within-requires g c =
+pub find_within-requires : goal.find_within-requires
+find_within-requires g c =
     let k = g.K.Kind.meaning c.args.kind.now in
     let tally = g.K.Tally.tallied c.args.kind.now in
-    let good = node_good k c.args.cells.now c.requires.sound _ c.cell-at-c.result c.cell-at-c.ensures c.loop-rest.invariant.live in
+    let good = node_good k c.args.cells.now c.requires.sound _ c.cell_at-c.result c.cell_at-c.ensures c.loop-rest.invariant.live in
     record {
       lawful = good.lawful;
       adds = c.requires.adds;
       below = omega (arith, c.if-past-own.true, c.tally-own.ensures.value, ap tally good.owns);
     }
 
-pub overflow-add-result : goal.overflow-add-result
-overflow-add-result g c =
+pub overflow_add-result : goal.overflow_add-result
+overflow_add-result g c =
     let k = g.K.Kind.meaning c.args.kind.now in
     let laws = g.K.Kind.laws c.args.kind.now in
-    let good = node_good k c.args.cells.now c.requires.sound _ c.cell-at-c.result c.cell-at-c.ensures c.loop-rest.invariant.live in
-    let width = c.width.ensures ∙ ap k.width c.summary-at-left.ensures ∙ width_is k laws c.args.cells.now c.requires.sound _ good.left_live in
+    let good = node_good k c.args.cells.now c.requires.sound _ c.cell_at-c.result c.cell_at-c.ensures c.loop-rest.invariant.live in
+    let width = c.width.ensures ∙ ap k.width c.summary_at-left.ensures ∙ width_is k laws c.args.cells.now c.requires.sound _ good.left_live in
     omega (
       arith,
       width,
-      c.find-within.ensures.inside,
-      sought_few k laws (g.K.Tally.tallied c.args.kind.now) c.requires.adds c.args.cells.now c.requires.sound _ _ _ _ _ _ c.requires.live c.loop-rest.invariant c.cell-at-c.result c.cell-at-c.ensures,
+      c.find_within.ensures.inside,
+      sought_few k laws (g.K.Tally.tallied c.args.kind.now) c.requires.adds c.args.cells.now c.requires.sound _ _ _ _ _ _ c.requires.live c.loop-rest.invariant c.cell_at-c.result c.cell_at-c.ensures,
     )
 
-pub overflow-add-base : goal.overflow-add-base
-overflow-add-base g c =
+pub overflow_add-base : goal.overflow_add-base
+overflow_add-base g c =
     let k = g.K.Kind.meaning c.args.kind.now in
     let laws = g.K.Kind.laws c.args.kind.now in
-    let good = node_good k c.args.cells.now c.requires.sound _ c.cell-at-c.result c.cell-at-c.ensures c.loop-rest.invariant.live in
-    let width = c.width.ensures ∙ ap k.width c.summary-at-left.ensures ∙ width_is k laws c.args.cells.now c.requires.sound _ good.left_live in
+    let good = node_good k c.args.cells.now c.requires.sound _ c.cell_at-c.result c.cell_at-c.ensures c.loop-rest.invariant.live in
+    let width = c.width.ensures ∙ ap k.width c.summary_at-left.ensures ∙ width_is k laws c.args.cells.now c.requires.sound _ good.left_live in
     omega (
       arith,
       width,
       c.extent.ensures good.lawful,
-      sought_few k laws (g.K.Tally.tallied c.args.kind.now) c.requires.adds c.args.cells.now c.requires.sound _ _ _ _ _ _ c.requires.live c.loop-rest.invariant c.cell-at-c.result c.cell-at-c.ensures,
+      sought_few k laws (g.K.Tally.tallied c.args.kind.now) c.requires.adds c.args.cells.now c.requires.sound _ _ _ _ _ _ c.requires.live c.loop-rest.invariant c.cell_at-c.result c.cell_at-c.ensures,
     )
 
 pub returns-then-past-own : goal.returns-then-past-own
@@ -94,21 +94,21 @@ returns-then-past-own g c =
     let k = g.K.Kind.meaning c.args.kind.now in
     let laws = g.K.Kind.laws c.args.kind.now in
     let tally = g.K.Tally.tallied c.args.kind.now in
-    let good = node_good k c.args.cells.now c.requires.sound _ c.cell-at-c.result c.cell-at-c.ensures c.loop-rest.invariant.live in
-    let sum = c.summary-at-left.ensures ∙ sum_is k laws c.args.cells.now c.requires.sound _ good.left_live in
-    let width = c.width.ensures ∙ ap k.width c.summary-at-left.ensures ∙ width_is k laws c.args.cells.now c.requires.sound _ good.left_live in
-    sought_found k laws tally c.requires.adds c.args.cells.now c.requires.sound _ _ _ _ _ _ c.requires.live c.loop-rest.invariant c.cell-at-c.result c.cell-at-c.ensures
-    (c.loop-rest.rest - c.tally-before.result) c.find-within.result _ _ c.requires.few
-    (omega (arith, c.if-rest-before.false, c.tally-before.ensures.value, ap tally sum)) c.find-within.ensures (omega (arith, width)) refl
+    let good = node_good k c.args.cells.now c.requires.sound _ c.cell_at-c.result c.cell_at-c.ensures c.loop-rest.invariant.live in
+    let sum = c.summary_at-left.ensures ∙ sum_is k laws c.args.cells.now c.requires.sound _ good.left_live in
+    let width = c.width.ensures ∙ ap k.width c.summary_at-left.ensures ∙ width_is k laws c.args.cells.now c.requires.sound _ good.left_live in
+    sought_found k laws tally c.requires.adds c.args.cells.now c.requires.sound _ _ _ _ _ _ c.requires.live c.loop-rest.invariant c.cell_at-c.result c.cell_at-c.ensures
+    (c.loop-rest.rest - c.tally-before.result) c.find_within.result _ _ c.requires.few
+    (omega (arith, c.if-rest-before.false, c.tally-before.ensures.value, ap tally sum)) c.find_within.ensures (omega (arith, width)) refl
 
 pub loop-rest-preserved : goal.loop-rest-preserved
 loop-rest-preserved g c =
     let k = g.K.Kind.meaning c.args.kind.now in
     let laws = g.K.Kind.laws c.args.kind.now in
     let tally = g.K.Tally.tallied c.args.kind.now in
-    let good = node_good k c.args.cells.now c.requires.sound _ c.cell-at-c.result c.cell-at-c.ensures c.loop-rest.invariant.live in
-    let sum = c.summary-at-left.ensures ∙ sum_is k laws c.args.cells.now c.requires.sound _ good.left_live in
-    let width = c.width.ensures ∙ ap k.width c.summary-at-left.ensures ∙ width_is k laws c.args.cells.now c.requires.sound _ good.left_live in
-    sought_right k laws tally c.requires.adds c.args.cells.now c.requires.sound _ _ _ _ _ _ c.requires.live c.loop-rest.invariant c.cell-at-c.result c.cell-at-c.ensures _ _
+    let good = node_good k c.args.cells.now c.requires.sound _ c.cell_at-c.result c.cell_at-c.ensures c.loop-rest.invariant.live in
+    let sum = c.summary_at-left.ensures ∙ sum_is k laws c.args.cells.now c.requires.sound _ good.left_live in
+    let width = c.width.ensures ∙ ap k.width c.summary_at-left.ensures ∙ width_is k laws c.args.cells.now c.requires.sound _ good.left_live in
+    sought_right k laws tally c.requires.adds c.args.cells.now c.requires.sound _ _ _ _ _ _ c.requires.live c.loop-rest.invariant c.cell_at-c.result c.cell_at-c.ensures _ _
     (omega (arith, c.if-rest-before.false, c.if-past-own.false, c.tally-before.ensures.value, ap tally sum, c.tally-own.ensures.value, ap tally good.owns))
     (omega (arith, width, c.extent.ensures good.lawful))

@@ -12,17 +12,17 @@ pub returns : goal.returns
 returns g c =
     let below = g.R.Reel.samples c.args.self.now.below in
     let by = scaled c.args.self.now.n in
-    let n = c.copy-to-n.result in
-    let copied = c.copy-to-n.ensures in
+    let n = c.copy_to-n.result in
+    let copied = c.copy_to-n.ensures in
     let some = stretch below c.args.start n in
     let rest = drop n c.args.block.now in
-    let long : length (stretch (g.R.Reel.samples c.args.self.now.below) c.args.start c.copy-to-n.result) ≡ c.copy-to-n.result =
+    let long : length (stretch (g.R.Reel.samples c.args.self.now.below) c.args.start c.copy_to-n.result) ≡ c.copy_to-n.result =
     length_stretch below c.args.start n (omega (arith, copied.count)) in
-    let front : take (c.copy-to-n.result - 0) c.copy-to-n.new.block ≡ stretch (g.R.Reel.samples c.args.self.now.below) c.args.start c.copy-to-n.result =
+    let front : take (c.copy_to-n.result - 0) c.copy_to-n.new.block ≡ stretch (g.R.Reel.samples c.args.self.now.below) c.args.start c.copy_to-n.result =
     simp sub-zero (ap (take n) copied.block ∙ take_at some rest n long) in
-    let back : drop c.copy-to-n.result c.copy-to-n.new.block ≡ drop c.copy-to-n.result c.args.block.now =
+    let back : drop c.copy_to-n.result c.copy_to-n.new.block ≡ drop c.copy_to-n.result c.args.block.now =
     ap (drop n) copied.block ∙ drop_at some rest n long in
     record {
       count = rw length-map copied.count;
-      block = simp sub-zero (ap (λ v. v ++ drop n c.copy-to-n.new.block) (c.amplify.ensures ∙ ap (map by) front ∙ sym (stretch_map by below c.args.start n)) ∙ ap (λ v. stretch (map by below) c.args.start n ++ v) back);
+      block = simp sub-zero (ap (λ v. v ++ drop n c.copy_to-n.new.block) (c.amplify.ensures ∙ ap (map by) front ∙ sym (stretch_map by below c.args.start n)) ∙ ap (λ v. stretch (map by below) c.args.start n ++ v) back);
     }

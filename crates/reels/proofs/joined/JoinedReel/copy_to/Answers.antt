@@ -8,8 +8,8 @@ use Rattle.reels.proofs.joined.JoinedReel.copy_to.Goals as goal
 pub returns-then-start-len : goal.returns-then-start-len
 returns-then-start-len g c = copied_none _ c.args.start c.args.block.now (omega arith)
 
-pub copy-both-requires : goal.copy-both-requires
-copy-both-requires g c = let e = simp length_cut at c.len-len.ensures in simp length-take (omega arith)
+pub copy_both-requires : goal.copy_both-requires
+copy_both-requires g c = let e = simp length_cut at c.len-len.ensures in simp length-take (omega arith)
 
 pub returns : goal.returns
 returns g c =
@@ -18,5 +18,5 @@ returns g c =
     let long : length (take (c.min-n.result - 0) c.args.block.now) ≡ c.min-n.result = simp length-take (omega arith) in
     record {
       count = omega arith;
-      block = simp sub-zero (ap (λ v. v ++ drop n c.args.block.now) (rw long at c.copy-both.ensures ∙ sym (stretch_cut both c.args.start n (omega arith))));
+      block = simp sub-zero (ap (λ v. v ++ drop n c.args.block.now) (rw long at c.copy_both.ensures ∙ sym (stretch_cut both c.args.start n (omega arith))));
     }

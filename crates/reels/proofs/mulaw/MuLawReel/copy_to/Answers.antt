@@ -11,8 +11,8 @@ use Rattle.reels.proofs.mulaw.MuLawReel.copy_to.Goals as goal
 pub returns-then-start-len : goal.returns-then-start-len
 returns-then-start-len c = copied_none _ c.args.start c.args.block.now (omega arith)
 
-pub slice-bounds-expand-end : goal.slice-bounds-expand-end
-slice-bounds-expand-end c = let e = simp (length_cut, length-map) at c.len-len.ensures in omega arith
+pub slice_bounds-expand-end : goal.slice_bounds-expand-end
+slice_bounds-expand-end c = let e = simp (length_cut, length-map) at c.len-len.ensures in omega arith
 
 pub returns : goal.returns
 returns c =

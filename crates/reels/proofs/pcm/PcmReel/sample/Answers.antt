@@ -18,6 +18,6 @@ pub returns : goal.returns
 returns c =
     let e = simp (length_cut, length_pairs) at c.len.ensures in
     let h : c.args.i < 1073741824 = omega arith in
-    let f : SFits w16 c.from-le-bytes.result = search rules in
+    let f : SFits w16 c.from_le_bytes.result = search rules in
     let n = nth_pairs c.args.self.now.bytes.now c.args.i (omega arith) in
     rw nth_cut (grind (arith, to_z-of_z, n))
