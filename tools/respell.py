@@ -97,12 +97,13 @@ def kept_here(text, mine):
     return kept
 
 
-def turn_code(code, names, kept):
+def turn_code(code, names, kept, made=True):
+    """The code with its names turned; where `made`, names behind `c.` and its like are the checker's own."""
     def one(m):
         w = m.group("word")
-        if m.group("path") or w in kept or w not in names:
+        if (made and m.group("path")) or w in kept or w not in names:
             return m.group(0)
-        return names[w]
+        return m.group("path") + names[w]
     return TOKEN.sub(one, code)
 
 
@@ -112,14 +113,14 @@ def turn_comment(text, names, kept):
     return turn_code(text, capital, kept)
 
 
-def turn(text, names, kept, mark):
+def turn(text, names, kept, mark, made):
     out = []
     for line in text.split("\n"):
         at = line.find(mark + " ") if not line.strip().startswith(mark) else line.find(mark)
         if at < 0:
-            out.append(turn_code(line, names, kept))
+            out.append(turn_code(line, names, kept, made))
         else:
-            out.append(turn_code(line[:at], names, kept) + turn_comment(line[at:], names, kept))
+            out.append(turn_code(line[:at], names, kept, made) + turn_comment(line[at:], names, kept))
     return "\n".join(out)
 
 
@@ -141,6 +142,12 @@ def clauses_only(text, names, kept):
                 inside = False
         out.append(code + turn_comment(comment, names, kept))
     return "\n".join(out)
+
+
+def answers(path):
+    """Whether the file is of a function's own folder, where the checker's names occur."""
+    parts = path.split(os.sep)
+    return parts[2] == "proofs" and len(parts) > 4
 
 
 def main():
@@ -168,7 +175,7 @@ def main():
         raise SystemExit(1)
     for p, t in texts.items():
         kept = kept_here(t, mine)
-        new = clauses_only(t, names, kept) if p.endswith((".rt", ".edit")) else turn(t, names, kept, "--")
+        new = clauses_only(t, names, kept) if p.endswith((".rt", ".edit")) else turn(t, names, kept, "--", answers(p))
         if new != t:
             with open(p, "w", encoding="utf-8") as f:
                 f.write(new)

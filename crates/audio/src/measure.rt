@@ -37,7 +37,7 @@ pub(crate) fn louder(s: Levels, t: Levels) -> Levels
 // The levels of the stretch of so many frames from `start` on, as far as the reel has them, a block
 // at a time.
 pub(crate) fn measure<R: Reel>(reel: &R, start: u32, frames: u32) -> Levels
-    ensures { result ≡ total (audio (samples reel.now)) (stretch (samples reel.now) start frames) }
+    ensures { result ≡ total (audio (R.samples reel.now)) (stretch (R.samples reel.now) start frames) }
 {
     let mut scratch = [0i16; BLOCK];
     let mut sum = silence();
@@ -54,7 +54,7 @@ pub(crate) fn measure<R: Reel>(reel: &R, start: u32, frames: u32) -> Levels
 
 // The same, for as many frames as fit the scratch block.
 fn measure_block<R: Reel>(reel: &R, start: u32, frames: u32, scratch: &mut [i16; BLOCK]) -> Levels
-    ensures { result ≡ total (audio (samples reel.now)) (stretch (samples reel.now) start (min frames 512)) }
+    ensures { result ≡ total (audio (R.samples reel.now)) (stretch (R.samples reel.now) start (min frames 512)) }
 {
     let most = (frames as usize).min(BLOCK);
     let n = reel.copy_to(start, &mut scratch[0..most]);

@@ -19,10 +19,10 @@ pub fn put<E: Copy, S: Copy>(cells: &mut [Cell<E, S>], i: u32, cell: Cell<E, S>)
 
 // Owns what `i` names once more. The pool is not touched, whichever it is.
 pub fn retain<K: Kind>(kind: &K, cells: &mut [Cell<K::Element, K::Summary>], i: u32)
-    requires holds { (p : Pool) × Holds (meaning kind.now) cells.old p [] (2 ^ 30) }
+    requires holds { (p : Pool) × Holds (K.meaning kind.now) cells.old p [] (2 ^ 30) }
     requires live { Live cells.old i }
     ensures exact { cells.new ≡ retained cells.old i }
-    ensures retains { Retains (meaning kind.now) cells.old i cells.new }
+    ensures retains { Retains (K.meaning kind.now) cells.old i cells.new }
 {
     if (i as usize) < cells.len() {
         let c = cell_at(cells, i);
@@ -46,8 +46,8 @@ pub fn give_up<K: Kind>(
     i: u32,
 ) -> bool
     requires inside { i < length cells.old }
-    requires owned { (rs : List ℕ) × Arena (meaning kind.now) cells.old pool.old (i ∷ rs) }
-    ensures { GivesUp (meaning kind.now) cells.old pool.old i cells.new pool.new result }
+    requires owned { (rs : List ℕ) × Arena (K.meaning kind.now) cells.old pool.old (i ∷ rs) }
+    ensures { GivesUp (K.meaning kind.now) cells.old pool.old i cells.new pool.new result }
 {
     let c = cell_at(cells, i);
     if c.refs > 1 {

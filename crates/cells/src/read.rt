@@ -26,7 +26,7 @@ pub fn count_at<E: Copy, S: Copy>(cells: &[Cell<E, S>], i: u32) -> u32
 
 // Their summary, in order.
 pub fn summary_at<K: Kind>(kind: &K, cells: &[Cell<K::Element, K::Summary>], i: u32) -> K::Summary
-    ensures { result ≡ sum_at (meaning kind.now) cells.now i }
+    ensures { result ≡ sum_at (K.meaning kind.now) cells.now i }
 {
     if (i as usize) < cells.len() {
         cell_at(cells, i).summary

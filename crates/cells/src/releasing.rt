@@ -19,9 +19,9 @@ fn pay<K: Kind>(
     owed: &mut [u32; 64],
     top: usize,
 ) -> usize
-    requires owes { Owes (meaning kind.now) cells.old pool.old owed.old top }
+    requires owes { Owes (K.meaning kind.now) cells.old pool.old owed.old top }
     requires some { 0 < top }
-    ensures { Pays (meaning kind.now) cells.old pool.old owed.old top cells.new pool.new owed.new result }
+    ensures { Pays (K.meaning kind.now) cells.old pool.old owed.old top cells.new pool.new owed.new result }
 {
     let last = top - 1;
     let link = owed[last];
@@ -45,10 +45,10 @@ pub fn release<K: Kind>(
     pool: &mut Pool,
     root: u32,
 )
-    requires owned { (rs : List ℕ) × Arena (meaning kind.now) cells.old pool.old (root ∷ rs) }
+    requires owned { (rs : List ℕ) × Arena (K.meaning kind.now) cells.old pool.old (root ∷ rs) }
     requires few { cell_count cells.old root ≤ most }
-    ensures { (rs : List ℕ) → Arena (meaning kind.now) cells.old pool.old (root ∷ rs)
-        → Releases (meaning kind.now) cells.old pool.old rs cells.new pool.new }
+    ensures { (rs : List ℕ) → Arena (K.meaning kind.now) cells.old pool.old (root ∷ rs)
+        → Releases (K.meaning kind.now) cells.old pool.old rs cells.new pool.new }
 {
     let mut owed = [0u32; 64];
     owed[0] = root;
@@ -60,8 +60,8 @@ pub fn release<K: Kind>(
 
 // How many cells are free: all that no owned root reaches.
 pub fn free<K: Kind>(kind: &K, cells: &[Cell<K::Element, K::Summary>], pool: &Pool) -> u32
-    ensures { (result ≡ pool.now.free) × ((rs : List ℕ) → Arena (meaning kind.now) cells.now pool.now rs
-        → NoneLost (meaning kind.now) cells.now pool.now rs) }
+    ensures { (result ≡ pool.now.free) × ((rs : List ℕ) → Arena (K.meaning kind.now) cells.now pool.now rs
+        → NoneLost (K.meaning kind.now) cells.now pool.now rs) }
 {
     pool.free
 }

@@ -11,7 +11,7 @@ use kinds::Kind;
 // Chains the cells in the order of their numbers; the number after the last names none. No root is owned.
 pub fn start<K: Kind>(kind: &K, cells: &mut [Cell<K::Element, K::Summary>]) -> Pool
     requires { length cells.old ≤ 65535 }
-    ensures arena { Arena (meaning kind.now) cells.new result [] }
+    ensures arena { Arena (K.meaning kind.now) cells.new result [] }
     ensures free { result.free ≡ length cells.old }
 {
     let n = cells.len() as u32;

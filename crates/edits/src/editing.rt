@@ -24,10 +24,10 @@ pub fn single<K: Kind>(
     pool: &mut Pool,
     element: K::Element,
 ) -> u32
-    requires owns { Owns (meaning kind.now) cells.old pool.old [] [] (2 ^ 16) }
-    requires lawful { Lawful (meaning kind.now) element }
+    requires owns { Owns (K.meaning kind.now) cells.old pool.old [] [] (2 ^ 16) }
+    requires lawful { Lawful (K.meaning kind.now) element }
     requires some { 1 ≤ pool.old.free }
-    ensures { Makes (meaning kind.now) cells.old pool.old cells.new pool.new result (element ∷ []) 1 }
+    ensures { Makes (K.meaning kind.now) cells.old pool.old cells.new pool.new result (element ∷ []) 1 }
 {
     let item = Item {
         element,
@@ -45,12 +45,12 @@ pub fn put<K: Kind>(
     place: u32,
     new: u32,
 ) -> u32
-    requires owns { Owns (meaning kind.now) cells.old pool.old [] (root ∷ new ∷ []) (2 ^ 16) }
+    requires owns { Owns (K.meaning kind.now) cells.old pool.old [] (root ∷ new ∷ []) (2 ^ 16) }
     requires few { length (list cells.old root) + length (list cells.old new) ≤ element_limit }
-    requires short { extent_of (meaning kind.now) (list cells.old root) + extent_of (meaning kind.now) (list cells.old new) ≤ limit }
+    requires short { extent_of (K.meaning kind.now) (list cells.old root) + extent_of (K.meaning kind.now) (list cells.old new) ≤ limit }
     requires some { edit_takes ≤ pool.old.free }
-    ensures { Makes (meaning kind.now) cells.old pool.old cells.new pool.new result
-        (put_at (meaning kind.now) place (list cells.old new) (list cells.old root)) edit_takes }
+    ensures { Makes (K.meaning kind.now) cells.old pool.old cells.new pool.new result
+        (put_at (K.meaning kind.now) place (list cells.old new) (list cells.old root)) edit_takes }
 {
     let split = part(kind, cells, pool, root, place);
     let front = merge(kind, cells, pool, split.before, new);
@@ -66,13 +66,13 @@ pub fn insert<K: Kind>(
     place: u32,
     element: K::Element,
 ) -> u32
-    requires owns { Owns (meaning kind.now) cells.old pool.old [] (root ∷ []) (2 ^ 15) }
-    requires lawful { Lawful (meaning kind.now) element }
+    requires owns { Owns (K.meaning kind.now) cells.old pool.old [] (root ∷ []) (2 ^ 15) }
+    requires lawful { Lawful (K.meaning kind.now) element }
     requires few { length (list cells.old root) < element_limit }
-    requires short { extent_of (meaning kind.now) (list cells.old root) + length ((meaning kind.now).atoms element) ≤ limit }
+    requires short { extent_of (K.meaning kind.now) (list cells.old root) + length ((K.meaning kind.now).atoms element) ≤ limit }
     requires some { insert_takes ≤ pool.old.free }
-    ensures { Makes (meaning kind.now) cells.old pool.old cells.new pool.new result
-        (put_at (meaning kind.now) place (element ∷ []) (list cells.old root)) insert_takes }
+    ensures { Makes (K.meaning kind.now) cells.old pool.old cells.new pool.new result
+        (put_at (K.meaning kind.now) place (element ∷ []) (list cells.old root)) insert_takes }
 {
     let one = single(kind, cells, pool, element);
     let r = put(kind, cells, pool, root, place, one);
@@ -87,9 +87,9 @@ fn let_go<K: Kind>(
     pool: &mut Pool,
     rest: Option<Loose<K::Element, K::Summary>>,
 )
-    requires owns { Owns (meaning kind.now) cells.old pool.old (loose_roots rest) [] (2 ^ 20) }
+    requires owns { Owns (K.meaning kind.now) cells.old pool.old (loose_roots rest) [] (2 ^ 20) }
     requires few { count (tail (behind cells.old rest)) ≤ most }
-    ensures { Moves (meaning kind.now) cells.old pool.old (loose_roots rest) cells.new pool.new [] 0 }
+    ensures { Moves (K.meaning kind.now) cells.old pool.old (loose_roots rest) cells.new pool.new [] 0 }
 {
     if let Some(loose) = rest {
         release(kind, cells, pool, loose.root);
@@ -105,11 +105,11 @@ pub fn copy<K: Kind>(
     from: u32,
     len: u32,
 ) -> u32
-    requires owns { Owns (meaning kind.now) cells.old pool.old [] (root ∷ []) (2 ^ 16) }
+    requires owns { Owns (K.meaning kind.now) cells.old pool.old [] (root ∷ []) (2 ^ 16) }
     requires few { length (list cells.old root) ≤ element_limit }
     requires some { copy_takes ≤ pool.old.free }
-    ensures { Makes (meaning kind.now) cells.old pool.old cells.new pool.new result
-        (taken (meaning kind.now) from len (list cells.old root)) copy_takes }
+    ensures { Makes (K.meaning kind.now) cells.old pool.old cells.new pool.new result
+        (taken (K.meaning kind.now) from len (list cells.old root)) copy_takes }
 {
     let first = part(kind, cells, pool, root, from);
     release(kind, cells, pool, first.before);
@@ -127,10 +127,10 @@ pub fn cut<K: Kind>(
     from: u32,
     len: u32,
 ) -> Removal
-    requires owns { Owns (meaning kind.now) cells.old pool.old [] (root ∷ []) (2 ^ 16) }
+    requires owns { Owns (K.meaning kind.now) cells.old pool.old [] (root ∷ []) (2 ^ 16) }
     requires few { length (list cells.old root) ≤ element_limit }
     requires some { edit_takes ≤ pool.old.free }
-    ensures { Cuts (meaning kind.now) cells.old pool.old cells.new pool.new result (list cells.old root) from len edit_takes }
+    ensures { Cuts (K.meaning kind.now) cells.old pool.old cells.new pool.new result (list cells.old root) from len edit_takes }
 {
     let first = part(kind, cells, pool, root, from);
     let second = part_rest(kind, cells, pool, first.loose, len);

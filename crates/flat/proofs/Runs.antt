@@ -104,7 +104,7 @@ module _ {E A S : Type 0} (k : Meaning E A S) where
   tied_edit : (s : State E) (g : Log E) (n : ℕ) (e : Edit E) → Tied k s g n
       → Tied k (edited s (makes_one k s.present e)) (with_edit g e) (min history_limit (n + 1))
   tied_edit s g n e t =
-      let force = g.inForce in
+      let force = g.in_force in
       let before = s.present ∷ s.past in
       record {
         present = ap (λ l. makes_one k l e) t.present ∙ sym (makes_append [] force (e ∷ []));
@@ -139,7 +139,7 @@ module _ {E A S : Type 0} (k : Meaning E A S) where
       → Tied k (undone_to s past) (with_undo g) (n - 1)
   tied_undo s g n [] same some t = absurd (omega arith)
   tied_undo s g n (newest ∷ older) same some t =
-      let force = g.inForce in
+      let force = g.in_force in
       let others = length force - 1 in
       let before : PastOf (newest ∷ older) force = subst (λ l. PastOf l force) same t.past in
       let count : length s.past ≡ suc (length older) = ap length same in
@@ -159,7 +159,7 @@ module _ {E A S : Type 0} (k : Meaning E A S) where
       → Tied k (redone_to s future) (with_redo g) (n + 1)
   tied_redo s g n [] same some t = absurd (omega arith)
   tied_redo s g n (next ∷ later) same some t =
-      let force = g.inForce in
+      let force = g.in_force in
       let undone = g.undone in
       let ahead : FutureOf (next ∷ later) undone force = subst (λ l. FutureOf l undone force) same t.future in
       let count : length s.future ≡ suc (length later) = ap length same in

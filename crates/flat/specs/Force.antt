@@ -32,23 +32,23 @@ module _ {E : Type 0} where
 
   -- an edit goes last among those in force, and empties those undone
   abbrev pub with_edit : Log E → Edit E → Log E
-  with_edit g e = record { in_force = g.inForce ++ (e ∷ []); undone = []; took = g.took }
+  with_edit g e = record { in_force = g.in_force ++ (e ∷ []); undone = []; took = g.took }
 
   abbrev pub with_took : Log E → List E → Log E
-  with_took g es = record { in_force = g.inForce; undone = g.undone; took = es }
+  with_took g es = record { in_force = g.in_force; undone = g.undone; took = es }
 
   -- the last in force moves to the front of those undone
   abbrev pub with_undo : Log E → Log E
-  with_undo g = let others = length g.inForce - 1 in
-      record { in_force = take others g.inForce; undone = drop others g.inForce ++ g.undone; took = g.took }
+  with_undo g = let others = length g.in_force - 1 in
+      record { in_force = take others g.in_force; undone = drop others g.in_force ++ g.undone; took = g.took }
 
   -- the front one of those undone moves back
   abbrev pub with_redo : Log E → Log E
-  with_redo g = record { in_force = g.inForce ++ take 1 g.undone; undone = drop 1 g.undone; took = g.took }
+  with_redo g = record { in_force = g.in_force ++ take 1 g.undone; undone = drop 1 g.undone; took = g.took }
 
   -- those undone are emptied
   abbrev pub with_forget : Log E → Log E
-  with_forget g = record { in_force = g.inForce; undone = []; took = g.took }
+  with_forget g = record { in_force = g.in_force; undone = []; took = g.took }
 
 module _ {E A S : Type 0} (k : Meaning E A S) where
   -- what an edit makes of a list of elements
@@ -64,7 +64,7 @@ module _ {E A S : Type 0} (k : Meaning E A S) where
 
   -- what a cut or copy of the range takes, of what the edits in force make of an empty sequence
   abbrev pub took_from : Log E → ℕ → ℕ → List E
-  took_from g from len = taken k from len (makes [] g.inForce)
+  took_from g from len = taken k from len (makes [] g.in_force)
 
   -- an accepted call
   abbrev pub noted : Log E → Call → Log E

@@ -228,12 +228,12 @@ module _ {E A S : Type 0} (k : Meaning E A S) where
   -- i, the i-th of the future what they make with the first i undone (i from 1 on), and the clipboard what
   -- the last cut or copy took.
   pub record Tied (s : State E) (g : Log E) (most : ℕ) : Type 0 where
-    pub present : s.present ≡ makes k [] g.inForce
+    pub present : s.present ≡ makes k [] g.in_force
     pub past : (i : ℕ) → i < length s.past
-        → slice_index_or s.past i [] ≡ makes k [] (take (length g.inForce - (i + 1)) g.inForce)
+        → slice_index_or s.past i [] ≡ makes k [] (take (length g.in_force - (i + 1)) g.in_force)
     pub past_count : length s.past ≡ most
-    pub past_length : length s.past ≤ length g.inForce
-    pub future : (i : ℕ) → i < length s.future → slice_index_or s.future i [] ≡ makes k [] (g.inForce ++ take (i + 1) g.undone)
+    pub past_length : length s.past ≤ length g.in_force
+    pub future : (i : ℕ) → i < length s.future → slice_index_or s.future i [] ≡ makes k [] (g.in_force ++ take (i + 1) g.undone)
     pub future_length : length s.future ≡ length g.undone
     pub few : length s.past + length s.future ≤ history_limit
     pub clipboard : s.clipboard ≡ g.took

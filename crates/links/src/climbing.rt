@@ -21,12 +21,12 @@ pub fn raise<K: Kind>(
     low: u32,
     i: u32,
 ) -> u32
-    requires above { Above (meaning kind.now) cells.old pool.old low i (2 ^ 26) }
+    requires above { Above (K.meaning kind.now) cells.old pool.old low i (2 ^ 26) }
     requires inside { i < length cells.old }
-    requires sits { Sits (meaning kind.now) (raised (seen flip cells.old low) (seen flip cells.old i)) }
+    requires sits { Sits (K.meaning kind.now) (raised (seen flip cells.old low) (seen flip cells.old i)) }
     requires some { 3 ≤ pool.old.free }
-    ensures { (rs : List ℕ) → Arena (meaning kind.now) cells.old pool.old (low ∷ rs)
-        → Yields (meaning kind.now) flip cells.old pool.old rs cells.new pool.new result
+    ensures { (rs : List ℕ) → Arena (K.meaning kind.now) cells.old pool.old (low ∷ rs)
+        → Yields (K.meaning kind.now) flip cells.old pool.old rs cells.new pool.new result
         (raised (seen flip cells.old low) (seen flip cells.old i)) 3 }
 {
     let c = cell_at(cells, i);
@@ -57,11 +57,11 @@ pub fn climb<K: Kind>(
     table: &[u32; 64],
     top: usize,
 ) -> u32
-    requires holds { Holds (meaning kind.now) cells.old pool.old (low ∷ right ∷ []) (2 ^ 25) }
+    requires holds { Holds (K.meaning kind.now) cells.old pool.old (low ∷ right ∷ []) (2 ^ 25) }
     requires tabled { Tabled flip cells.old right table.now top }
-    requires climbs { Climbs (meaning kind.now) flip cells.old right top (seen flip cells.old low) }
+    requires climbs { Climbs (K.meaning kind.now) flip cells.old right top (seen flip cells.old low) }
     requires some { 3 * top ≤ pool.old.free }
-    ensures { Raises (meaning kind.now) flip cells.old pool.old low right cells.new pool.new result
+    ensures { Raises (K.meaning kind.now) flip cells.old pool.old low right cells.new pool.new result
         (climbed flip cells.old right top (seen flip cells.old low)) (3 * top) }
 {
     let mut x = low;

@@ -32,11 +32,11 @@ pub fn make_facing<K: Kind>(
     item: Item<K::Element, K::Summary>,
     right: u32,
 ) -> u32
-    requires owned { (rs : List ℕ) × Arena (meaning kind.now) cells.old pool.old (left ∷ right ∷ rs) }
-    requires fits { Fits (meaning kind.now) (seen flip cells.old left) item (seen flip cells.old right) }
+    requires owned { (rs : List ℕ) × Arena (K.meaning kind.now) cells.old pool.old (left ∷ right ∷ rs) }
+    requires fits { Fits (K.meaning kind.now) (seen flip cells.old left) item (seen flip cells.old right) }
     requires some { 0 < pool.old.free }
-    ensures yields { (rs : List ℕ) → Arena (meaning kind.now) cells.old pool.old (left ∷ right ∷ rs)
-        → Yields (meaning kind.now) flip cells.old pool.old rs cells.new pool.new result
+    ensures yields { (rs : List ℕ) → Arena (K.meaning kind.now) cells.old pool.old (left ∷ right ∷ rs)
+        → Yields (K.meaning kind.now) flip cells.old pool.old rs cells.new pool.new result
         (node (seen flip cells.old left) item.element (seen flip cells.old right)) 1 }
     ensures taken { pool.new.free + 1 ≡ pool.old.free }
 {

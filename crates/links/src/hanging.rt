@@ -25,13 +25,13 @@ pub fn hang<K: Kind>(
     item: Item<K::Element, K::Summary>,
     right: u32,
 ) -> u32
-    requires holds { Holds (meaning kind.now) cells.old pool.old (left ∷ right ∷ []) (2 ^ 24) }
-    requires linkable { Linkable (meaning kind.now) (seen flip cells.old left) item.element (seen flip cells.old right) }
+    requires holds { Holds (K.meaning kind.now) cells.old pool.old (left ∷ right ∷ []) (2 ^ 24) }
+    requires linkable { Linkable (K.meaning kind.now) (seen flip cells.old left) item.element (seen flip cells.old right) }
     requires heavy { Δ * weight (seen flip cells.old left) < weight (seen flip cells.old right) }
-    requires whole { Whole (meaning kind.now) item }
+    requires whole { Whole (K.meaning kind.now) item }
     requires some { 3 * length (spine (seen flip cells.old left) (seen flip cells.old right)) + 1 ≤ pool.old.free }
-    ensures { (rs : List ℕ) → Arena (meaning kind.now) cells.old pool.old (left ∷ right ∷ rs)
-        → Yields (meaning kind.now) flip cells.old pool.old rs cells.new pool.new result
+    ensures { (rs : List ℕ) → Arena (K.meaning kind.now) cells.old pool.old (left ∷ right ∷ rs)
+        → Yields (K.meaning kind.now) flip cells.old pool.old rs cells.new pool.new result
         (hung (seen flip cells.old left) item.element (seen flip cells.old right))
         (3 * length (spine (seen flip cells.old left) (seen flip cells.old right)) + 1) }
 {

@@ -23,12 +23,12 @@ pub fn link<K: Kind>(
     item: Item<K::Element, K::Summary>,
     right: u32,
 ) -> u32
-    requires holds { Holds (meaning kind.now) cells.old pool.old (left ∷ right ∷ []) (2 ^ 24) }
-    requires linkable { Linkable (meaning kind.now) (tree cells.old left) item.element (tree cells.old right) }
-    requires whole { Whole (meaning kind.now) item }
+    requires holds { Holds (K.meaning kind.now) cells.old pool.old (left ∷ right ∷ []) (2 ^ 24) }
+    requires linkable { Linkable (K.meaning kind.now) (tree cells.old left) item.element (tree cells.old right) }
+    requires whole { Whole (K.meaning kind.now) item }
     requires some { link_cost (tree cells.old left) (tree cells.old right) ≤ pool.old.free }
-    ensures yields { (rs : List ℕ) → Arena (meaning kind.now) cells.old pool.old (left ∷ right ∷ rs)
-        → Yields (meaning kind.now) false cells.old pool.old rs cells.new pool.new result
+    ensures yields { (rs : List ℕ) → Arena (K.meaning kind.now) cells.old pool.old (left ∷ right ∷ rs)
+        → Yields (K.meaning kind.now) false cells.old pool.old rs cells.new pool.new result
         (link (tree cells.old left) item.element (tree cells.old right))
         (link_cost (tree cells.old left) (tree cells.old right)) }
     ensures order { elements (tree cells.new result) ≡ elements (tree cells.old left) ++ (item.element ∷ elements (tree cells.old right)) }

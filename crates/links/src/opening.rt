@@ -16,9 +16,9 @@ pub fn open<K: Kind>(
     flip: bool,
     i: u32,
 ) -> Parts<K::Element, K::Summary>
-    requires holds { (p : Pool) × Holds (meaning kind.now) cells.old p (i ∷ []) (2 ^ 29) }
+    requires holds { (p : Pool) × Holds (K.meaning kind.now) cells.old p (i ∷ []) (2 ^ 29) }
     requires inside { i < length cells.old }
-    ensures { Opens (meaning kind.now) flip cells.old i cells.new result }
+    ensures { Opens (K.meaning kind.now) flip cells.old i cells.new result }
 {
     let c = cell_at(cells, i);
     let near = near_of(flip, c);

@@ -26,12 +26,12 @@ pub fn rotate<K: Kind>(
     item: Item<K::Element, K::Summary>,
     right: u32,
 ) -> u32
-    requires holds { Holds (meaning kind.now) cells.old pool.old (parts.near ∷ parts.far ∷ right ∷ []) (2 ^ 28) }
-    requires sits { Sits (meaning kind.now) (rotated (node (seen flip cells.old parts.near) parts.item.element (seen flip cells.old parts.far)) item.element (seen flip cells.old right)) }
-    requires whole { Whole (meaning kind.now) parts.item × Whole (meaning kind.now) item }
+    requires holds { Holds (K.meaning kind.now) cells.old pool.old (parts.near ∷ parts.far ∷ right ∷ []) (2 ^ 28) }
+    requires sits { Sits (K.meaning kind.now) (rotated (node (seen flip cells.old parts.near) parts.item.element (seen flip cells.old parts.far)) item.element (seen flip cells.old right)) }
+    requires whole { Whole (K.meaning kind.now) parts.item × Whole (K.meaning kind.now) item }
     requires some { 3 ≤ pool.old.free }
-    ensures { (rs : List ℕ) → Arena (meaning kind.now) cells.old pool.old (parts.near ∷ parts.far ∷ right ∷ rs)
-        → Yields (meaning kind.now) flip cells.old pool.old rs cells.new pool.new result
+    ensures { (rs : List ℕ) → Arena (K.meaning kind.now) cells.old pool.old (parts.near ∷ parts.far ∷ right ∷ rs)
+        → Yields (K.meaning kind.now) flip cells.old pool.old rs cells.new pool.new result
         (rotated (node (seen flip cells.old parts.near) parts.item.element (seen flip cells.old parts.far)) item.element (seen flip cells.old right)) 3 }
 {
     let inner = count_at(cells, parts.far) + 1;
@@ -52,12 +52,12 @@ pub fn rebalance<K: Kind>(
     item: Item<K::Element, K::Summary>,
     right: u32,
 ) -> u32
-    requires holds { Holds (meaning kind.now) cells.old pool.old (left ∷ right ∷ []) (2 ^ 27) }
-    requires sits { Sits (meaning kind.now) (rebalanced (seen flip cells.old left) item.element (seen flip cells.old right)) }
-    requires whole { Whole (meaning kind.now) item }
+    requires holds { Holds (K.meaning kind.now) cells.old pool.old (left ∷ right ∷ []) (2 ^ 27) }
+    requires sits { Sits (K.meaning kind.now) (rebalanced (seen flip cells.old left) item.element (seen flip cells.old right)) }
+    requires whole { Whole (K.meaning kind.now) item }
     requires some { 3 ≤ pool.old.free }
-    ensures { (rs : List ℕ) → Arena (meaning kind.now) cells.old pool.old (left ∷ right ∷ rs)
-        → Yields (meaning kind.now) flip cells.old pool.old rs cells.new pool.new result
+    ensures { (rs : List ℕ) → Arena (K.meaning kind.now) cells.old pool.old (left ∷ right ∷ rs)
+        → Yields (K.meaning kind.now) flip cells.old pool.old rs cells.new pool.new result
         (rebalanced (seen flip cells.old left) item.element (seen flip cells.old right)) 3 }
 {
     let heavy = count_at(cells, left) + 1;

@@ -25,12 +25,12 @@ pub fn rotate_once<K: Kind>(
     item: Item<K::Element, K::Summary>,
     right: u32,
 ) -> u32
-    requires owned { (rs : List ℕ) × Arena (meaning kind.now) cells.old pool.old (parts.near ∷ parts.far ∷ right ∷ rs) }
-    requires sits { Sits (meaning kind.now) (node (seen flip cells.old parts.near) parts.item.element (node (seen flip cells.old parts.far) item.element (seen flip cells.old right))) }
-    requires whole { Whole (meaning kind.now) parts.item × Whole (meaning kind.now) item }
+    requires owned { (rs : List ℕ) × Arena (K.meaning kind.now) cells.old pool.old (parts.near ∷ parts.far ∷ right ∷ rs) }
+    requires sits { Sits (K.meaning kind.now) (node (seen flip cells.old parts.near) parts.item.element (node (seen flip cells.old parts.far) item.element (seen flip cells.old right))) }
+    requires whole { Whole (K.meaning kind.now) parts.item × Whole (K.meaning kind.now) item }
     requires some { 2 ≤ pool.old.free }
-    ensures { (rs : List ℕ) → Arena (meaning kind.now) cells.old pool.old (parts.near ∷ parts.far ∷ right ∷ rs)
-        → Yields (meaning kind.now) flip cells.old pool.old rs cells.new pool.new result
+    ensures { (rs : List ℕ) → Arena (K.meaning kind.now) cells.old pool.old (parts.near ∷ parts.far ∷ right ∷ rs)
+        → Yields (K.meaning kind.now) flip cells.old pool.old rs cells.new pool.new result
         (node (seen flip cells.old parts.near) parts.item.element (node (seen flip cells.old parts.far) item.element (seen flip cells.old right))) 2 }
 {
     let low = make_facing(kind, cells, pool, flip, parts.far, item, right);
@@ -48,13 +48,13 @@ pub fn rotate_twice<K: Kind>(
     item: Item<K::Element, K::Summary>,
     right: u32,
 ) -> u32
-    requires holds { Holds (meaning kind.now) cells.old pool.old (parts.near ∷ parts.far ∷ right ∷ []) (2 ^ 28) }
+    requires holds { Holds (K.meaning kind.now) cells.old pool.old (parts.near ∷ parts.far ∷ right ∷ []) (2 ^ 28) }
     requires inner { 1 < weight (seen flip cells.old parts.far) }
-    requires sits { Sits (meaning kind.now) (rotated_twice (seen flip cells.old parts.near) parts.item.element (seen flip cells.old parts.far) item.element (seen flip cells.old right)) }
-    requires whole { Whole (meaning kind.now) parts.item × Whole (meaning kind.now) item }
+    requires sits { Sits (K.meaning kind.now) (rotated_twice (seen flip cells.old parts.near) parts.item.element (seen flip cells.old parts.far) item.element (seen flip cells.old right)) }
+    requires whole { Whole (K.meaning kind.now) parts.item × Whole (K.meaning kind.now) item }
     requires some { 3 ≤ pool.old.free }
-    ensures { (rs : List ℕ) → Arena (meaning kind.now) cells.old pool.old (parts.near ∷ parts.far ∷ right ∷ rs)
-        → Yields (meaning kind.now) flip cells.old pool.old rs cells.new pool.new result
+    ensures { (rs : List ℕ) → Arena (K.meaning kind.now) cells.old pool.old (parts.near ∷ parts.far ∷ right ∷ rs)
+        → Yields (K.meaning kind.now) flip cells.old pool.old rs cells.new pool.new result
         (rotated_twice (seen flip cells.old parts.near) parts.item.element (seen flip cells.old parts.far) item.element (seen flip cells.old right)) 3 }
 {
     let inner = open(kind, cells, flip, parts.far);

@@ -20,11 +20,11 @@ pub fn sink<K: Kind>(
     right: u32,
     table: &mut [u32; 64],
 ) -> Foot
-    requires sound { Sound (meaning kind.now) cells.now }
+    requires sound { Sound (K.meaning kind.now) cells.now }
     requires live { Live cells.now left × Live cells.now right }
     requires few { (cell_count cells.now left ≤ most) × (cell_count cells.now right ≤ most) }
     requires deep { length (spine (seen flip cells.now left) (seen flip cells.now right)) ≤ deepest }
-    ensures { Sunk (meaning kind.now) flip cells.now (seen flip cells.now left) right table.new result }
+    ensures { Sunk (K.meaning kind.now) flip cells.now (seen flip cells.now left) right table.new result }
 {
     let light = count_at(cells, left) + 1;
     let mut x = right;

@@ -29,10 +29,10 @@ fn puts_with<K: Kind>(
     clip: u32,
     rounds: u32,
 ) -> u64
-    requires owns { Owns (meaning kind.now) cells.old pool.old [] (root ∷ clip ∷ []) (2 ^ 15) }
+    requires owns { Owns (K.meaning kind.now) cells.old pool.old [] (root ∷ clip ∷ []) (2 ^ 15) }
     requires few { length (list cells.old root) + length (list cells.old clip) ≤ 2 * element_limit }
     requires some { edit_takes ≤ pool.old.free }
-    ensures { Rests (meaning kind.now) cells.old pool.old cells.new pool.new }
+    ensures { Rests (K.meaning kind.now) cells.old pool.old cells.new pool.new }
 {
     let elements = count_at(cells, root) + count_at(cells, clip);
     let extent = width_at(kind, cells, root) + width_at(kind, cells, clip);
@@ -50,10 +50,10 @@ fn with_clip<K: Kind>(
     root: u32,
     rounds: u32,
 ) -> u64
-    requires owns { Owns (meaning kind.now) cells.old pool.old [] (root ∷ []) (2 ^ 14) }
+    requires owns { Owns (K.meaning kind.now) cells.old pool.old [] (root ∷ []) (2 ^ 14) }
     requires few { length (list cells.old root) ≤ element_limit }
     requires some { 2048 ≤ pool.old.free }
-    ensures { Rests (meaning kind.now) cells.old pool.old cells.new pool.new }
+    ensures { Rests (K.meaning kind.now) cells.old pool.old cells.new pool.new }
 {
     let end = width_at(kind, cells, root);
     let clip = copy(kind, cells, pool, root, 0, end / 100);
@@ -71,9 +71,9 @@ fn worked<K: Kind>(
     work: u32,
     rounds: u32,
 ) -> u64
-    requires owns { Owns (meaning kind.now) cells.old pool.old [] (root ∷ []) (2 ^ 14) }
+    requires owns { Owns (K.meaning kind.now) cells.old pool.old [] (root ∷ []) (2 ^ 14) }
     requires few { length (list cells.old root) ≤ element_limit }
-    ensures { Rests (meaning kind.now) cells.old pool.old cells.new pool.new }
+    ensures { Rests (K.meaning kind.now) cells.old pool.old cells.new pool.new }
 {
     if pool.free < 2048 {
         return 0;

@@ -25,11 +25,11 @@ fn put_once<K: Kind>(
     place: u32,
     clip: u32,
 ) -> u32
-    requires owns { Owns (meaning kind.now) cells.old pool.old [] (root ∷ clip ∷ []) (2 ^ 15) }
+    requires owns { Owns (K.meaning kind.now) cells.old pool.old [] (root ∷ clip ∷ []) (2 ^ 15) }
     requires few { length (list cells.old root) + length (list cells.old clip) ≤ element_limit }
-    requires short { extent_of (meaning kind.now) (list cells.old root) + extent_of (meaning kind.now) (list cells.old clip) ≤ limit }
+    requires short { extent_of (K.meaning kind.now) (list cells.old root) + extent_of (K.meaning kind.now) (list cells.old clip) ≤ limit }
     requires some { edit_takes ≤ pool.old.free }
-    ensures { Rests (meaning kind.now) cells.old pool.old cells.new pool.new }
+    ensures { Rests (K.meaning kind.now) cells.old pool.old cells.new pool.new }
 {
     let r = put(kind, cells, pool, root, place, clip);
     let n = count_at(cells, r);
@@ -46,10 +46,10 @@ fn cut_once<K: Kind>(
     from: u32,
     len: u32,
 ) -> u32
-    requires owns { Owns (meaning kind.now) cells.old pool.old [] (root ∷ []) (2 ^ 15) }
+    requires owns { Owns (K.meaning kind.now) cells.old pool.old [] (root ∷ []) (2 ^ 15) }
     requires few { length (list cells.old root) ≤ element_limit }
     requires some { edit_takes ≤ pool.old.free }
-    ensures { Rests (meaning kind.now) cells.old pool.old cells.new pool.new }
+    ensures { Rests (K.meaning kind.now) cells.old pool.old cells.new pool.new }
 {
     let r = cut(kind, cells, pool, root, from, len);
     let n = count_at(cells, r.left);
@@ -66,11 +66,11 @@ pub(crate) fn puts<K: Kind>(
     clip: u32,
     rounds: u32,
 ) -> u64
-    requires owns { Owns (meaning kind.now) cells.old pool.old [] (root ∷ clip ∷ []) (2 ^ 15) }
+    requires owns { Owns (K.meaning kind.now) cells.old pool.old [] (root ∷ clip ∷ []) (2 ^ 15) }
     requires few { length (list cells.old root) + length (list cells.old clip) ≤ element_limit }
-    requires short { extent_of (meaning kind.now) (list cells.old root) + extent_of (meaning kind.now) (list cells.old clip) ≤ limit }
+    requires short { extent_of (K.meaning kind.now) (list cells.old root) + extent_of (K.meaning kind.now) (list cells.old clip) ≤ limit }
     requires some { edit_takes ≤ pool.old.free }
-    ensures { Rests (meaning kind.now) cells.old pool.old cells.new pool.new }
+    ensures { Rests (K.meaning kind.now) cells.old pool.old cells.new pool.new }
 {
     let end = width_at(kind, cells, root);
     let mut state = 1;
@@ -90,10 +90,10 @@ pub(crate) fn cuts<K: Kind>(
     root: u32,
     rounds: u32,
 ) -> u64
-    requires owns { Owns (meaning kind.now) cells.old pool.old [] (root ∷ []) (2 ^ 15) }
+    requires owns { Owns (K.meaning kind.now) cells.old pool.old [] (root ∷ []) (2 ^ 15) }
     requires few { length (list cells.old root) ≤ element_limit }
     requires some { edit_takes ≤ pool.old.free }
-    ensures { Rests (meaning kind.now) cells.old pool.old cells.new pool.new }
+    ensures { Rests (K.meaning kind.now) cells.old pool.old cells.new pool.new }
 {
     let end = width_at(kind, cells, root);
     let mut state = 1;
@@ -114,7 +114,7 @@ pub(crate) fn reads<K: Kind>(
     root: u32,
     rounds: u32,
 ) -> u64
-    requires sound { Sound (meaning kind.now) cells.now }
+    requires sound { Sound (K.meaning kind.now) cells.now }
     requires live { Live cells.now root }
     requires few { cell_count cells.now root ≤ most }
 {
@@ -138,7 +138,7 @@ pub(crate) fn overviews<K: Kind>(
     root: u32,
     rounds: u32,
 ) -> u64
-    requires sound { Sound (meaning kind.now) cells.now }
+    requires sound { Sound (K.meaning kind.now) cells.now }
     requires live { Live cells.now root }
 {
     let end = width_at(kind, cells, root);

@@ -17,7 +17,7 @@ pub struct Survey<S> {
 
 // The summary of the element of two numbers.
 pub fn measure<K: Kind>(k: &K, a: u32, b: u32) -> Result<K::Summary, SessionFault>
-    ensures { result ≡ summary_of (meaning k.now) ((meaning k.now).made a b) }
+    ensures { result ≡ summary_of (K.meaning k.now) ((K.meaning k.now).made a b) }
 {
     let e = k.make(a, b)?;
     Ok(k.summary(e))
@@ -31,14 +31,14 @@ pub fn survey_of<K: Kind>(
     b: u32,
     n: u32,
 ) -> Result<Survey<K::Summary>, SurveyFault>
-    ensures { MatchResult result (λ s. (e : K.Element) × ((meaning k.now).made a b ≡ Ok e) × Surveyed (meaning k.now) ((meaning k.now).atoms e) n s.columns.items s.whole) (NoSurvey ((meaning k.now).made a b)) }
+    ensures { MatchResult result (λ s. (e : K.Element) × ((K.meaning k.now).made a b ≡ Ok e) × Surveyed (K.meaning k.now) ((K.meaning k.now).atoms e) n s.columns.items s.whole) (NoSurvey ((K.meaning k.now).made a b)) }
 {
     let e = element(k, a, b)?;
     columns_of(heap, k, e, n)
 }
 
 fn element<K: Kind>(k: &K, a: u32, b: u32) -> Result<K::Element, SessionFault>
-    ensures { result ≡ carried ((meaning k.now).made a b) }
+    ensures { result ≡ carried ((K.meaning k.now).made a b) }
 {
     Ok(k.make(a, b)?)
 }
@@ -49,8 +49,8 @@ fn columns_of<K: Kind>(
     e: K::Element,
     n: u32,
 ) -> Result<Survey<K::Summary>, SurveyFault>
-    requires { Lawful (meaning k.now) e }
-    ensures { MatchResult result (λ s. Surveyed (meaning k.now) ((meaning k.now).atoms e) n s.columns.items s.whole) (λ f. f ≡ NoMemory) }
+    requires { Lawful (K.meaning k.now) e }
+    ensures { MatchResult result (λ s. Surveyed (K.meaning k.now) ((K.meaning k.now).atoms e) n s.columns.items s.whole) (λ f. f ≡ NoMemory) }
 {
     let extent = k.extent(e);
     let mut columns = Vec::new(heap);
@@ -78,10 +78,10 @@ pub fn edge_of(extent: u32, n: u32, i: u32) -> u32
 
 // The summary of the element's atoms from one place to another.
 fn stretch<K: Kind>(k: &K, e: K::Element, from: u32, to: u32) -> K::Summary
-    requires lawful { Lawful (meaning k.now) e }
+    requires lawful { Lawful (K.meaning k.now) e }
     requires order { from ≤ to }
-    requires inside { to ≤ length ((meaning k.now).atoms e) }
-    ensures { result ≡ between (meaning k.now) ((meaning k.now).atoms e) from to }
+    requires inside { to ≤ length ((K.meaning k.now).atoms e) }
+    ensures { result ≡ between (K.meaning k.now) ((K.meaning k.now).atoms e) from to }
 {
     if from == to {
         k.empty()

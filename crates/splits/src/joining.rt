@@ -26,12 +26,12 @@ pub fn join<K: Kind>(
     left: u32,
     rest: Option<Loose<K::Element, K::Summary>>,
 ) -> u32
-    requires owns { Owns (meaning kind.now) cells.old pool.old (left ∷ loose_roots rest) [] (2 ^ 20) }
-    requires tied { AllTied (meaning kind.now) rest }
+    requires owns { Owns (K.meaning kind.now) cells.old pool.old (left ∷ loose_roots rest) [] (2 ^ 20) }
+    requires tied { AllTied (K.meaning kind.now) rest }
     requires few { count (tree cells.old left) + count (tail (behind cells.old rest)) < most }
-    requires short { span (shape (meaning kind.now)) (tree cells.old left) + extents (shape (meaning kind.now)) (listed (behind cells.old rest)) ≤ limit }
+    requires short { span (shape (K.meaning kind.now)) (tree cells.old left) + extents (shape (K.meaning kind.now)) (listed (behind cells.old rest)) ≤ limit }
     requires some { joined_cost (tree cells.old left) (behind cells.old rest) ≤ pool.old.free }
-    ensures grows { Grows (meaning kind.now) false cells.old pool.old (left ∷ loose_roots rest) cells.new pool.new result
+    ensures grows { Grows (K.meaning kind.now) false cells.old pool.old (left ∷ loose_roots rest) cells.new pool.new result
         (joined (tree cells.old left) (behind cells.old rest)) (joined_cost (tree cells.old left) (behind cells.old rest)) }
     ensures lists { elements (tree cells.new result) ≡ elements (tree cells.old left) ++ listed (behind cells.old rest) }
 {
@@ -49,13 +49,13 @@ pub fn merge<K: Kind>(
     left: u32,
     right: u32,
 ) -> u32
-    requires owns { Owns (meaning kind.now) cells.old pool.old (left ∷ []) (right ∷ []) (2 ^ 18) }
+    requires owns { Owns (K.meaning kind.now) cells.old pool.old (left ∷ []) (right ∷ []) (2 ^ 18) }
     requires few { count (tree cells.old left) + count (tree cells.old right) < most }
-    requires short { span (shape (meaning kind.now)) (tree cells.old left) + span (shape (meaning kind.now)) (tree cells.old right) ≤ limit }
-    requires some { merge_cost (shape (meaning kind.now)) (tree cells.old left) (tree cells.old right) ≤ pool.old.free }
-    ensures grows { Grows (meaning kind.now) false cells.old pool.old (left ∷ []) cells.new pool.new result
-        (merge (shape (meaning kind.now)) (tree cells.old left) (tree cells.old right))
-        (merge_cost (shape (meaning kind.now)) (tree cells.old left) (tree cells.old right)) }
+    requires short { span (shape (K.meaning kind.now)) (tree cells.old left) + span (shape (K.meaning kind.now)) (tree cells.old right) ≤ limit }
+    requires some { merge_cost (shape (K.meaning kind.now)) (tree cells.old left) (tree cells.old right) ≤ pool.old.free }
+    ensures grows { Grows (K.meaning kind.now) false cells.old pool.old (left ∷ []) cells.new pool.new result
+        (merge (shape (K.meaning kind.now)) (tree cells.old left) (tree cells.old right))
+        (merge_cost (shape (K.meaning kind.now)) (tree cells.old left) (tree cells.old right)) }
     ensures lists { elements (tree cells.new result) ≡ elements (tree cells.old left) ++ elements (tree cells.old right) }
 {
     let split = part(kind, cells, pool, right, 0);

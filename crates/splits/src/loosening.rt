@@ -29,14 +29,14 @@ pub fn up_to<K: Kind>(
     element: K::Element,
     d: u32,
 ) -> u32
-    requires owns { Owns (meaning kind.now) cells.old pool.old (left ∷ []) [] (2 ^ 22) }
-    requires lawful { Lawful (meaning kind.now) element }
-    requires inside { d < length ((meaning kind.now).atoms element) }
-    requires few { count (up_to (shape (meaning kind.now)) (tree cells.old left) element d) ≤ most }
-    requires short { span (shape (meaning kind.now)) (up_to (shape (meaning kind.now)) (tree cells.old left) element d) ≤ limit }
+    requires owns { Owns (K.meaning kind.now) cells.old pool.old (left ∷ []) [] (2 ^ 22) }
+    requires lawful { Lawful (K.meaning kind.now) element }
+    requires inside { d < length ((K.meaning kind.now).atoms element) }
+    requires few { count (up_to (shape (K.meaning kind.now)) (tree cells.old left) element d) ≤ most }
+    requires short { span (shape (K.meaning kind.now)) (up_to (shape (K.meaning kind.now)) (tree cells.old left) element d) ≤ limit }
     requires some { up_to_cost (tree cells.old left) d ≤ pool.old.free }
-    ensures { Grows (meaning kind.now) false cells.old pool.old (left ∷ []) cells.new pool.new result
-        (up_to (shape (meaning kind.now)) (tree cells.old left) element d) (up_to_cost (tree cells.old left) d) }
+    ensures { Grows (K.meaning kind.now) false cells.old pool.old (left ∷ []) cells.new pool.new result
+        (up_to (shape (K.meaning kind.now)) (tree cells.old left) element d) (up_to_cost (tree cells.old left) d) }
 {
     if d == 0 {
         return left;
@@ -55,10 +55,10 @@ pub fn from_on<K: Kind>(
     loose: Loose<K::Element, K::Summary>,
     d: u32,
 ) -> Loose<K::Element, K::Summary>
-    requires tied { Tied (meaning kind.now) loose }
-    requires inside { d < length ((meaning kind.now).atoms loose.element) }
-    ensures tied { Tied (meaning kind.now) result }
-    ensures element { result.element ≡ on_from (shape (meaning kind.now)) loose.element d }
+    requires tied { Tied (K.meaning kind.now) loose }
+    requires inside { d < length ((K.meaning kind.now).atoms loose.element) }
+    ensures tied { Tied (K.meaning kind.now) result }
+    ensures element { result.element ≡ on_from (shape (K.meaning kind.now)) loose.element d }
     ensures root { result.root ≡ loose.root }
 {
     if d == 0 {
@@ -77,8 +77,8 @@ pub fn item_of<K: Kind>(
     kind: &K,
     loose: Loose<K::Element, K::Summary>,
 ) -> Item<K::Element, K::Summary>
-    requires { Tied (meaning kind.now) loose }
-    ensures whole { Whole (meaning kind.now) result }
+    requires { Tied (K.meaning kind.now) loose }
+    ensures whole { Whole (K.meaning kind.now) result }
     ensures element { result.element ≡ loose.element }
 {
     match loose.own {

@@ -29,13 +29,13 @@ pub fn part<K: Kind>(
     root: u32,
     place: u32,
 ) -> Split<K::Element, K::Summary>
-    requires owns { Owns (meaning kind.now) cells.old pool.old [] (root ∷ []) (2 ^ 20) }
+    requires owns { Owns (K.meaning kind.now) cells.old pool.old [] (root ∷ []) (2 ^ 20) }
     requires few { count (tree cells.old root) ≤ most }
-    requires some { parted_cost (shape (meaning kind.now)) (tree cells.old root) place ≤ pool.old.free }
-    ensures splits { Splits (meaning kind.now) cells.old pool.old [] cells.new pool.new result
-        (parted (shape (meaning kind.now)) (tree cells.old root) place)
-        (parted_cost (shape (meaning kind.now)) (tree cells.old root) place) }
-    ensures lists { Divided (meaning kind.now) cells.new result (elements (tree cells.old root)) place }
+    requires some { parted_cost (shape (K.meaning kind.now)) (tree cells.old root) place ≤ pool.old.free }
+    ensures splits { Splits (K.meaning kind.now) cells.old pool.old [] cells.new pool.new result
+        (parted (shape (K.meaning kind.now)) (tree cells.old root) place)
+        (parted_cost (shape (K.meaning kind.now)) (tree cells.old root) place) }
+    ensures lists { Divided (K.meaning kind.now) cells.new result (elements (tree cells.old root)) place }
 {
     if place >= width_at(kind, cells, root) {
         retain(kind, cells, root);
@@ -79,13 +79,13 @@ pub fn part_behind<K: Kind>(
     root: u32,
     place: u32,
 ) -> Option<Loose<K::Element, K::Summary>>
-    requires owns { Owns (meaning kind.now) cells.old pool.old [] (root ∷ []) (2 ^ 20) }
+    requires owns { Owns (K.meaning kind.now) cells.old pool.old [] (root ∷ []) (2 ^ 20) }
     requires few { count (tree cells.old root) ≤ most }
-    requires some { parted_cost (shape (meaning kind.now)) (tree cells.old root) place ≤ pool.old.free }
-    ensures leaves { Leaves (meaning kind.now) cells.old pool.old cells.new pool.new result
-        (parted (shape (meaning kind.now)) (tree cells.old root) place).rest
-        (parted_cost (shape (meaning kind.now)) (tree cells.old root) place) }
-    ensures lists { listed (behind cells.new result) ≡ after (meaning kind.now) place (elements (tree cells.old root)) }
+    requires some { parted_cost (shape (K.meaning kind.now)) (tree cells.old root) place ≤ pool.old.free }
+    ensures leaves { Leaves (K.meaning kind.now) cells.old pool.old cells.new pool.new result
+        (parted (shape (K.meaning kind.now)) (tree cells.old root) place).rest
+        (parted_cost (shape (K.meaning kind.now)) (tree cells.old root) place) }
+    ensures lists { listed (behind cells.new result) ≡ after (K.meaning kind.now) place (elements (tree cells.old root)) }
 {
     if place >= width_at(kind, cells, root) {
         return None;
@@ -110,14 +110,14 @@ pub fn part_loose<K: Kind>(
     loose: Loose<K::Element, K::Summary>,
     place: u32,
 ) -> Split<K::Element, K::Summary>
-    requires owns { Owns (meaning kind.now) cells.old pool.old (loose.root ∷ []) [] (2 ^ 19) }
-    requires tied { Tied (meaning kind.now) loose }
+    requires owns { Owns (K.meaning kind.now) cells.old pool.old (loose.root ∷ []) [] (2 ^ 19) }
+    requires tied { Tied (K.meaning kind.now) loose }
     requires few { count (tree cells.old loose.root) < most }
-    requires short { length ((meaning kind.now).atoms loose.element) + span (shape (meaning kind.now)) (tree cells.old loose.root) ≤ limit }
-    requires some { parted_rest_cost (shape (meaning kind.now)) (more loose.element (tree cells.old loose.root)) place ≤ pool.old.free }
-    ensures { Splits (meaning kind.now) cells.old pool.old (loose.root ∷ []) cells.new pool.new result
-        (parted_rest (shape (meaning kind.now)) (more loose.element (tree cells.old loose.root)) place)
-        (parted_rest_cost (shape (meaning kind.now)) (more loose.element (tree cells.old loose.root)) place) }
+    requires short { length ((K.meaning kind.now).atoms loose.element) + span (shape (K.meaning kind.now)) (tree cells.old loose.root) ≤ limit }
+    requires some { parted_rest_cost (shape (K.meaning kind.now)) (more loose.element (tree cells.old loose.root)) place ≤ pool.old.free }
+    ensures { Splits (K.meaning kind.now) cells.old pool.old (loose.root ∷ []) cells.new pool.new result
+        (parted_rest (shape (K.meaning kind.now)) (more loose.element (tree cells.old loose.root)) place)
+        (parted_rest_cost (shape (K.meaning kind.now)) (more loose.element (tree cells.old loose.root)) place) }
 {
     let own = kind.extent(loose.element);
     if place < own {
@@ -144,15 +144,15 @@ pub fn part_rest<K: Kind>(
     rest: Option<Loose<K::Element, K::Summary>>,
     place: u32,
 ) -> Split<K::Element, K::Summary>
-    requires owns { Owns (meaning kind.now) cells.old pool.old (loose_roots rest) [] (2 ^ 19) }
-    requires tied { AllTied (meaning kind.now) rest }
+    requires owns { Owns (K.meaning kind.now) cells.old pool.old (loose_roots rest) [] (2 ^ 19) }
+    requires tied { AllTied (K.meaning kind.now) rest }
     requires few { count (tail (behind cells.old rest)) < most }
-    requires short { extents (shape (meaning kind.now)) (listed (behind cells.old rest)) ≤ limit }
-    requires some { parted_rest_cost (shape (meaning kind.now)) (behind cells.old rest) place ≤ pool.old.free }
-    ensures splits { Splits (meaning kind.now) cells.old pool.old (loose_roots rest) cells.new pool.new result
-        (parted_rest (shape (meaning kind.now)) (behind cells.old rest) place)
-        (parted_rest_cost (shape (meaning kind.now)) (behind cells.old rest) place) }
-    ensures lists { Divided (meaning kind.now) cells.new result (listed (behind cells.old rest)) place }
+    requires short { extents (shape (K.meaning kind.now)) (listed (behind cells.old rest)) ≤ limit }
+    requires some { parted_rest_cost (shape (K.meaning kind.now)) (behind cells.old rest) place ≤ pool.old.free }
+    ensures splits { Splits (K.meaning kind.now) cells.old pool.old (loose_roots rest) cells.new pool.new result
+        (parted_rest (shape (K.meaning kind.now)) (behind cells.old rest) place)
+        (parted_rest_cost (shape (K.meaning kind.now)) (behind cells.old rest) place) }
+    ensures lists { Divided (K.meaning kind.now) cells.new result (listed (behind cells.old rest)) place }
 {
     match rest {
         Some(loose) => part_loose(kind, cells, pool, loose, place),

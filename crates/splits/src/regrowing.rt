@@ -24,11 +24,11 @@ pub fn link_facing<K: Kind>(
     item: Item<K::Element, K::Summary>,
     right: u32,
 ) -> u32
-    requires holds { Holds (meaning kind.now) cells.old pool.old (left ∷ right ∷ []) (2 ^ 24) }
-    requires linkable { Linkable (meaning kind.now) (seen flip cells.old left) item.element (seen flip cells.old right) }
-    requires whole { Whole (meaning kind.now) item }
+    requires holds { Holds (K.meaning kind.now) cells.old pool.old (left ∷ right ∷ []) (2 ^ 24) }
+    requires linkable { Linkable (K.meaning kind.now) (seen flip cells.old left) item.element (seen flip cells.old right) }
+    requires whole { Whole (K.meaning kind.now) item }
     requires some { link_cost (seen flip cells.old left) (seen flip cells.old right) ≤ pool.old.free }
-    ensures { Grows (meaning kind.now) flip cells.old pool.old (left ∷ right ∷ []) cells.new pool.new result
+    ensures { Grows (K.meaning kind.now) flip cells.old pool.old (left ∷ right ∷ []) cells.new pool.new result
         (link (seen flip cells.old left) item.element (seen flip cells.old right))
         (link_cost (seen flip cells.old left) (seen flip cells.old right)) }
 {
@@ -47,8 +47,8 @@ pub fn regrow_one<K: Kind>(
     low: u32,
     i: u32,
 ) -> u32
-    requires { Joinable (meaning kind.now) flip cells.old pool.old low i }
-    ensures { Grown (meaning kind.now) flip cells.old pool.old low i cells.new pool.new result }
+    requires { Joinable (K.meaning kind.now) flip cells.old pool.old low i }
+    ensures { Grown (K.meaning kind.now) flip cells.old pool.old low i cells.new pool.new result }
 {
     let c = cell_at(cells, i);
     let far = far_of(flip, c);
@@ -77,8 +77,8 @@ pub fn regrow<K: Kind>(
     table: &[u32; 64],
     top: usize,
 ) -> u32
-    requires { Growable (meaning kind.now) flip cells.old pool.old low table.now top }
-    ensures { Regrown (meaning kind.now) flip cells.old pool.old (low ∷ []) (seen flip cells.old low) 0 (take top table.now) cells.new pool.new result }
+    requires { Growable (K.meaning kind.now) flip cells.old pool.old low table.now top }
+    ensures { Regrown (K.meaning kind.now) flip cells.old pool.old (low ∷ []) (seen flip cells.old low) 0 (take top table.now) cells.new pool.new result }
 {
     let mut x = low;
     let mut n = top;

@@ -22,8 +22,8 @@ pub fn behind_of<K: Kind>(
     lefts: &[u32; 64],
     top: usize,
 ) -> u32
-    requires { Behind (meaning kind.now) cells.old pool.old right lefts.now top }
-    ensures { Regrown (meaning kind.now) false cells.old pool.old [] (tree cells.old right) 0 (take top lefts.now) cells.new pool.new result }
+    requires { Behind (K.meaning kind.now) cells.old pool.old right lefts.now top }
+    ensures { Regrown (K.meaning kind.now) false cells.old pool.old [] (tree cells.old right) 0 (take top lefts.now) cells.new pool.new result }
 {
     retain(kind, cells, right);
     regrow(kind, cells, pool, false, right, lefts, top)
@@ -41,9 +41,9 @@ pub fn before_of<K: Kind>(
     rights: &[u32; 64],
     top: usize,
 ) -> u32
-    requires { Before (meaning kind.now) cells.old pool.old left element d rights.now top }
-    ensures { Regrown (meaning kind.now) true cells.old pool.old []
-        (mirror (up_to (shape (meaning kind.now)) (tree cells.old left) element d)) (up_to_cost (tree cells.old left) d)
+    requires { Before (K.meaning kind.now) cells.old pool.old left element d rights.now top }
+    ensures { Regrown (K.meaning kind.now) true cells.old pool.old []
+        (mirror (up_to (shape (K.meaning kind.now)) (tree cells.old left) element d)) (up_to_cost (tree cells.old left) d)
         (take top rights.now) cells.new pool.new result }
 {
     retain(kind, cells, left);

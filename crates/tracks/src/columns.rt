@@ -22,10 +22,10 @@ pub fn stretch<K: Kind>(
     from: u32,
     to: u32,
 ) -> K::Summary
-    requires owns { Owns (meaning kind.now) cells.now pool.now [] (root ∷ []) (2 ^ 16) }
+    requires owns { Owns (K.meaning kind.now) cells.now pool.now [] (root ∷ []) (2 ^ 16) }
     requires order { from ≤ to }
-    requires inside { to ≤ extent_of (meaning kind.now) (list cells.now root) }
-    ensures { result ≡ between (meaning kind.now) (atoms_of (meaning kind.now) (list cells.now root)) from to }
+    requires inside { to ≤ extent_of (K.meaning kind.now) (list cells.now root) }
+    ensures { result ≡ between (K.meaning kind.now) (atoms_of (K.meaning kind.now) (list cells.now root)) from to }
 {
     if from == to {
         kind.empty()
@@ -43,8 +43,8 @@ pub fn columns_of<K: Kind>(
     root: u32,
     n: u32,
 ) -> Result<Vec<K::Summary>, AllocError>
-    requires { Owns (meaning kind.now) cells.now pool.now [] (root ∷ []) (2 ^ 16) }
-    ensures { IfOk result (λ v. v.items ≡ map (column (meaning kind.now) (atoms_of (meaning kind.now) (list cells.now root)) n) (range_with_len 0 n)) }
+    requires { Owns (K.meaning kind.now) cells.now pool.now [] (root ∷ []) (2 ^ 16) }
+    ensures { IfOk result (λ v. v.items ≡ map (column (K.meaning kind.now) (atoms_of (K.meaning kind.now) (list cells.now root)) n) (range_with_len 0 n)) }
 {
     let extent = width_at(kind, cells, root);
     let mut columns = Vec::new(heap);

@@ -39,11 +39,11 @@ pub fn lay<K: Kind>(
     first: u32,
     second: u32,
 ) -> Result<u32, SessionFault>
-    requires owns { Owns (meaning kind.now) cells.old pool.old (root ∷ []) [] (2 ^ 14) }
+    requires owns { Owns (K.meaning kind.now) cells.old pool.old (root ∷ []) [] (2 ^ 14) }
     requires few { length (list cells.old root) ≤ element_limit }
     ensures { MatchResult result
-        (Lays (meaning kind.now) cells.old pool.old root first second cells.new pool.new)
-        (Refuses (meaning kind.now) (not_laid (meaning kind.now) (list cells.old root) pool.old.free first second)
+        (Lays (K.meaning kind.now) cells.old pool.old root first second cells.new pool.new)
+        (Refuses (K.meaning kind.now) (not_laid (K.meaning kind.now) (list cells.old root) pool.old.free first second)
         cells.old pool.old cells.new pool.new) }
 {
     let element = kind.make(first, second)?;
@@ -65,8 +65,8 @@ pub fn lay_all<K: Kind>(
     pool: &mut Pool,
     pieces: &[Piece],
 ) -> Laid
-    requires { Owns (meaning kind.now) cells.old pool.old [] [] (2 ^ 14) }
-    ensures { LaysAll (meaning kind.now) cells.old pool.old pieces.now cells.new pool.new result }
+    requires { Owns (K.meaning kind.now) cells.old pool.old [] [] (2 ^ 14) }
+    ensures { LaysAll (K.meaning kind.now) cells.old pool.old pieces.now cells.new pool.new result }
 {
     let mut root = NONE;
     let mut laid = 0;

@@ -22,12 +22,12 @@ pub fn take_out<K: Kind>(
     from: u32,
     len: u32,
 ) -> Result<Removal, SessionFault>
-    requires owns { Owns (meaning kind.now) cells.old pool.old [] (root ∷ []) (2 ^ 14) }
+    requires owns { Owns (K.meaning kind.now) cells.old pool.old [] (root ∷ []) (2 ^ 14) }
     requires few { length (list cells.old root) ≤ element_limit }
     requires some { edit_takes ≤ pool.old.free }
     ensures { MatchResult result
-        (TakesOut (meaning kind.now) cells.old pool.old root from len cells.new pool.new)
-        (Declines (meaning kind.now) (not_taken (meaning kind.now) (list cells.old root) pool.old.free from len)
+        (TakesOut (K.meaning kind.now) cells.old pool.old root from len cells.new pool.new)
+        (Declines (K.meaning kind.now) (not_taken (K.meaning kind.now) (list cells.old root) pool.old.free from len)
         cells.old pool.old cells.new pool.new) }
 {
     if len == 0 {
@@ -55,11 +55,11 @@ pub fn put_in<K: Kind>(
     place: u32,
     clip: u32,
 ) -> Result<u32, SessionFault>
-    requires owns { Owns (meaning kind.now) cells.old pool.old [] (root ∷ clip ∷ []) (2 ^ 14) }
+    requires owns { Owns (K.meaning kind.now) cells.old pool.old [] (root ∷ clip ∷ []) (2 ^ 14) }
     requires some { edit_takes ≤ pool.old.free }
     ensures { MatchResult result
-        (PutsIn (meaning kind.now) cells.old pool.old root place clip cells.new pool.new)
-        (Declines (meaning kind.now) (not_put (meaning kind.now) (list cells.old root) (list cells.old clip) pool.old.free place)
+        (PutsIn (K.meaning kind.now) cells.old pool.old root place clip cells.new pool.new)
+        (Declines (K.meaning kind.now) (not_put (K.meaning kind.now) (list cells.old root) (list cells.old clip) pool.old.free place)
         cells.old pool.old cells.new pool.new) }
 {
     let end = width_at(kind, cells, root);

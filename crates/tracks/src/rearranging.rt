@@ -23,7 +23,7 @@ use walks::width_at;
 // Starts a pool over cells, if they are not too few or too many.
 fn open<K: Kind>(kind: &K, cells: &mut [Cell<K::Element, K::Summary>]) -> Result<Pool, SessionFault>
     ensures { MatchResult result
-        (λ pool. Arena (meaning kind.now) cells.new pool [] × (pool.free ≡ length cells.old) × (fewest_cells ≤ length cells.old))
+        (λ pool. Arena (K.meaning kind.now) cells.new pool [] × (pool.free ≡ length cells.old) × (fewest_cells ≤ length cells.old))
         (λ f. cells_outside (length cells.old) ≡ Some f) }
 {
     let size = cells.len();
@@ -43,11 +43,11 @@ fn keep<K: Kind>(
     len: u32,
     to: u32,
 ) -> Result<Versions, SessionFault>
-    requires arena { Arena (meaning kind.now) cells.old pool.old [] }
+    requires arena { Arena (K.meaning kind.now) cells.old pool.old [] }
     requires some { fewest_cells ≤ pool.old.free }
     ensures { MatchResult result
-        (Kept (meaning kind.now) pieces.now from len to cells.new pool.new)
-        (Stops (meaning kind.now) (length cells.old) pieces.now from len to) }
+        (Kept (K.meaning kind.now) pieces.now from len to cells.new pool.new)
+        (Stops (K.meaning kind.now) (length cells.old) pieces.now from len to) }
 {
     let all = pool.free;
     let track = lay_all(kind, cells, pool, pieces);
@@ -77,8 +77,8 @@ fn version_of<K: Kind>(
     root: u32,
     took: u32,
 ) -> Version
-    requires { Owns (meaning kind.now) cells.now pool.now [] (root ∷ []) (2 ^ 16) }
-    ensures tells { Tells (meaning kind.now) result (list cells.now root) }
+    requires { Owns (K.meaning kind.now) cells.now pool.now [] (root ∷ []) (2 ^ 16) }
+    ensures tells { Tells (K.meaning kind.now) result (list cells.now root) }
     ensures took { result.took ≡ took }
 {
     Version {
@@ -95,12 +95,12 @@ fn let_go<K: Kind>(
     pool: &mut Pool,
     v: Versions,
 )
-    requires arena { Arena (meaning kind.now) cells.old pool.old (v.moved ∷ v.left ∷ v.range ∷ v.laid ∷ []) }
+    requires arena { Arena (K.meaning kind.now) cells.old pool.old (v.moved ∷ v.left ∷ v.range ∷ v.laid ∷ []) }
     requires moved { length (list cells.old v.moved) ≤ most }
     requires left { length (list cells.old v.left) ≤ most }
     requires range { length (list cells.old v.range) ≤ most }
     requires laid { length (list cells.old v.laid) ≤ most }
-    ensures { Arena (meaning kind.now) cells.new pool.new [] }
+    ensures { Arena (K.meaning kind.now) cells.new pool.new [] }
 {
     release(kind, cells, pool, v.moved);
     release(kind, cells, pool, v.left);
@@ -121,8 +121,8 @@ pub fn rearrange<K: Kind>(
     n: u32,
 ) -> Result<Rearranged<K::Summary>, SurveyFault>
     ensures { MatchResult result
-        (Rearranges (meaning kind.now) pieces.now from len to (length cells.old) n)
-        (NotRearranged (meaning kind.now) (length cells.old) pieces.now from len to) }
+        (Rearranges (K.meaning kind.now) pieces.now from len to (length cells.old) n)
+        (NotRearranged (K.meaning kind.now) (length cells.old) pieces.now from len to) }
 {
     let mut pool = open(kind, cells)?;
     let v = keep(kind, cells, &mut pool, pieces, from, len, to)?;

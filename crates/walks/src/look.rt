@@ -8,9 +8,9 @@ use kinds::Kind;
 
 // How many atoms lie under a link.
 pub fn width_at<K: Kind>(kind: &K, cells: &[Cell<K::Element, K::Summary>], i: u32) -> u32
-    requires sound { Sound (meaning kind.now) cells.now }
+    requires sound { Sound (K.meaning kind.now) cells.now }
     requires live { Live cells.now i }
-    ensures { result ≡ span (shape (meaning kind.now)) (tree cells.now i) }
+    ensures { result ≡ span (shape (K.meaning kind.now)) (tree cells.now i) }
 {
     kind.width(summary_at(kind, cells, i))
 }

@@ -22,11 +22,11 @@ pub fn descend<K: Kind>(
     lefts: &mut [u32; 64],
     rights: &mut [u32; 64],
 ) -> Found
-    requires sound { Sound (meaning kind.now) cells.now }
+    requires sound { Sound (K.meaning kind.now) cells.now }
     requires live { Live cells.now root }
-    requires within { place < span (shape (meaning kind.now)) (tree cells.now root) }
+    requires within { place < span (shape (K.meaning kind.now)) (tree cells.now root) }
     requires few { cell_count cells.now root ≤ most }
-    ensures walked { Walked (meaning kind.now) cells.now root place lefts.new rights.new result }
+    ensures walked { Walked (K.meaning kind.now) cells.now root place lefts.new rights.new result }
     ensures beyond { (drop result.lefts lefts.new ≡ drop result.lefts lefts.old) × (drop result.rights rights.new ≡ drop result.rights rights.old) }
 {
     let (mut cell, mut at) = (root, place);
@@ -64,11 +64,11 @@ pub fn read<K: Kind>(
     root: u32,
     place: u32,
 ) -> Reading
-    requires sound { Sound (meaning kind.now) cells.now }
+    requires sound { Sound (K.meaning kind.now) cells.now }
     requires live { Live cells.now root }
-    requires within { place < span (shape (meaning kind.now)) (tree cells.now root) }
+    requires within { place < span (shape (K.meaning kind.now)) (tree cells.now root) }
     requires few { cell_count cells.now root ≤ most }
-    ensures { Reads (meaning kind.now) cells.now root place result }
+    ensures { Reads (K.meaning kind.now) cells.now root place result }
 {
     let mut lefts = [0; 64];
     let mut rights = [0; 64];

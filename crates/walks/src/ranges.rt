@@ -13,10 +13,10 @@ use kinds::Kind;
 
 // The summary of `len` atoms of a cell's element from the atom `from` on.
 fn piece<K: Kind>(kind: &K, c: Cell<K::Element, K::Summary>, from: u32, len: u32) -> K::Summary
-    requires lawful { Lawful (meaning kind.now) c.element }
-    requires owns { c.own ≡ total (meaning kind.now) ((meaning kind.now).atoms c.element) }
-    requires within { Within (meaning kind.now) c.element from len }
-    ensures { result ≡ total (meaning kind.now) (take len (drop from ((meaning kind.now).atoms c.element))) }
+    requires lawful { Lawful (K.meaning kind.now) c.element }
+    requires owns { c.own ≡ total (K.meaning kind.now) ((K.meaning kind.now).atoms c.element) }
+    requires within { Within (K.meaning kind.now) c.element from len }
+    ensures { result ≡ total (K.meaning kind.now) (take len (drop from ((K.meaning kind.now).atoms c.element))) }
 {
     if len == kind.extent(c.element) {
         c.own
@@ -32,10 +32,10 @@ fn tail_summary<K: Kind>(
     link: u32,
     from: u32,
 ) -> K::Summary
-    requires sound { Sound (meaning kind.now) cells.now }
+    requires sound { Sound (K.meaning kind.now) cells.now }
     requires live { Live cells.now link }
-    requires within { from ≤ span (shape (meaning kind.now)) (tree cells.now link) }
-    ensures { result ≡ total (meaning kind.now) (drop from (meant (meaning kind.now) (tree cells.now link))) }
+    requires within { from ≤ span (shape (K.meaning kind.now)) (tree cells.now link) }
+    ensures { result ≡ total (K.meaning kind.now) (drop from (meant (K.meaning kind.now) (tree cells.now link))) }
 {
     let mut sum = kind.empty();
     if from == width_at(kind, cells, link) {
@@ -74,10 +74,10 @@ fn head_summary<K: Kind>(
     link: u32,
     len: u32,
 ) -> K::Summary
-    requires sound { Sound (meaning kind.now) cells.now }
+    requires sound { Sound (K.meaning kind.now) cells.now }
     requires live { Live cells.now link }
-    requires within { len ≤ span (shape (meaning kind.now)) (tree cells.now link) }
-    ensures { result ≡ total (meaning kind.now) (take len (meant (meaning kind.now) (tree cells.now link))) }
+    requires within { len ≤ span (shape (K.meaning kind.now)) (tree cells.now link) }
+    ensures { result ≡ total (K.meaning kind.now) (take len (meant (K.meaning kind.now) (tree cells.now link))) }
 {
     let mut sum = kind.empty();
     if len == 0 {
@@ -116,11 +116,11 @@ fn fork<K: Kind>(
     from: u32,
     len: u32,
 ) -> Fork
-    requires sound { Sound (meaning kind.now) cells.now }
+    requires sound { Sound (K.meaning kind.now) cells.now }
     requires live { Live cells.now root }
     requires some { 1 ≤ len }
-    requires within { from + len ≤ span (shape (meaning kind.now)) (tree cells.now root) }
-    ensures { Forked (meaning kind.now) cells.now root from len result }
+    requires within { from + len ≤ span (shape (K.meaning kind.now)) (tree cells.now root) }
+    ensures { Forked (K.meaning kind.now) cells.now root from len result }
 {
     let mut cell = root;
     let mut at = from;
@@ -148,11 +148,11 @@ pub fn overview<K: Kind>(
     from: u32,
     len: u32,
 ) -> K::Summary
-    requires sound { Sound (meaning kind.now) cells.now }
+    requires sound { Sound (K.meaning kind.now) cells.now }
     requires live { Live cells.now root }
     requires some { 1 ≤ len }
-    requires within { from + len ≤ span (shape (meaning kind.now)) (tree cells.now root) }
-    ensures { result ≡ total (meaning kind.now) (take len (drop from (meant (meaning kind.now) (tree cells.now root)))) }
+    requires within { from + len ≤ span (shape (K.meaning kind.now)) (tree cells.now root) }
+    ensures { result ≡ total (K.meaning kind.now) (take len (drop from (meant (K.meaning kind.now) (tree cells.now root)))) }
 {
     let parted = fork(kind, cells, root, from, len);
     let c = cell_at(cells, parted.cell);

@@ -22,7 +22,7 @@ fn go_down<K: Kind>(
     depth: usize,
     link: u32,
 ) -> usize
-    requires sound { Sound (meaning kind.now) cells.now }
+    requires sound { Sound (K.meaning kind.now) cells.now }
     requires live { Live cells.now link }
     requires fits { depth ≤ 64 }
     requires nested { Nested cells.now (most + 1) (take depth table.old) (cell_count cells.now link + 1) }
@@ -40,9 +40,9 @@ fn go_down<K: Kind>(
 
 // What an element has from its atom `d` on.
 fn from_offset<K: Kind>(kind: &K, element: K::Element, d: u32) -> K::Element
-    requires lawful { Lawful (meaning kind.now) element }
-    requires inside { d < length ((meaning kind.now).atoms element) }
-    ensures { Behind (meaning kind.now) element d result }
+    requires lawful { Lawful (K.meaning kind.now) element }
+    requires inside { d < length ((K.meaning kind.now).atoms element) }
+    ensures { Behind (K.meaning kind.now) element d result }
 {
     if d == 0 {
         element
@@ -59,12 +59,12 @@ pub fn begin<K: Kind>(
     from: u32,
     len: u32,
 ) -> Cursor
-    requires sound { Sound (meaning kind.now) cells.now }
+    requires sound { Sound (K.meaning kind.now) cells.now }
     requires live { Live cells.now root }
     requires some { 1 ≤ len }
-    requires within { from + len ≤ span (shape (meaning kind.now)) (tree cells.now root) }
+    requires within { from + len ≤ span (shape (K.meaning kind.now)) (tree cells.now root) }
     requires few { cell_count cells.now root ≤ most }
-    ensures { Begins (meaning kind.now) cells.now root from len result }
+    ensures { Begins (K.meaning kind.now) cells.now root from len result }
 {
     let mut table = [0; 64];
     let mut rights = [0; 64];
@@ -84,10 +84,10 @@ pub fn advance<K: Kind>(
     cells: &[Cell<K::Element, K::Summary>],
     cursor: &mut Cursor,
 ) -> Option<K::Element>
-    requires sound { Sound (meaning kind.now) cells.now }
-    requires ready { Ready (meaning kind.now) cells.now cursor.old }
-    ensures ready { Ready (meaning kind.now) cells.now cursor.new }
-    ensures given { MatchOption result (Ended (meaning kind.now) cells.now cursor.old cursor.new) (Gave (meaning kind.now) cells.now cursor.old cursor.new) }
+    requires sound { Sound (K.meaning kind.now) cells.now }
+    requires ready { Ready (K.meaning kind.now) cells.now cursor.old }
+    ensures ready { Ready (K.meaning kind.now) cells.now cursor.new }
+    ensures given { MatchOption result (Ended (K.meaning kind.now) cells.now cursor.old cursor.new) (Gave (K.meaning kind.now) cells.now cursor.old cursor.new) }
 {
     if cursor.left == 0 {
         return None;

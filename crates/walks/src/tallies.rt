@@ -12,9 +12,9 @@ use kinds::{Kind, Tally};
 // The atom of the element at which its tally passes `t`. Each turn asks for half as many atoms as the one before.
 fn find_within<K: Tally>(kind: &K, element: K::Element, t: u64) -> u32
     requires lawful { Lawful (K.Kind.meaning kind.now) element }
-    requires adds { Tallies (K.Kind.meaning kind.now) (tallied kind.now) }
-    requires below { t < tallied kind.now (total (K.Kind.meaning kind.now) ((K.Kind.meaning kind.now).atoms element)) }
-    ensures { Passes (K.Kind.meaning kind.now) (tallied kind.now) ((K.Kind.meaning kind.now).atoms element) t result }
+    requires adds { Tallies (K.Kind.meaning kind.now) (K.tallied kind.now) }
+    requires below { t < K.tallied kind.now (total (K.Kind.meaning kind.now) ((K.Kind.meaning kind.now).atoms element)) }
+    ensures { Passes (K.Kind.meaning kind.now) (K.tallied kind.now) ((K.Kind.meaning kind.now).atoms element) t result }
 {
     let mut from = 0;
     let mut len = kind.extent(element);
@@ -43,9 +43,9 @@ pub fn find<K: Tally>(
     requires sound { Sound (K.Kind.meaning kind.now) cells.now }
     requires live { Live cells.now root }
     requires few { cell_count cells.now root ≤ most }
-    requires adds { Tallies (K.Kind.meaning kind.now) (tallied kind.now) }
-    requires below { t < tallied kind.now (total (K.Kind.meaning kind.now) (meant (K.Kind.meaning kind.now) (tree cells.now root))) }
-    ensures { Finds (K.Kind.meaning kind.now) (tallied kind.now) cells.now root t result }
+    requires adds { Tallies (K.Kind.meaning kind.now) (K.tallied kind.now) }
+    requires below { t < K.tallied kind.now (total (K.Kind.meaning kind.now) (meant (K.Kind.meaning kind.now) (tree cells.now root))) }
+    ensures { Finds (K.Kind.meaning kind.now) (K.tallied kind.now) cells.now root t result }
 {
     let mut cell = root;
     let mut rest = t;
