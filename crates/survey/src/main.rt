@@ -125,7 +125,7 @@ fn finish<R: Reel + Copy>(rt: &HostRuntime, options: &Options<'_>, reel: R) -> a
 // A refusal of bytes as a reel, with the file and the number.
 fn fault(rt: &HostRuntime, path: &str, f: ReelFault) -> anyhow::Result<anyhow::Error> {
     let number = f.number();
-    Ok(format!(in rt.alloc(); "{path}: refused with {number}: {f}")?.into())
+    Ok(anyhow!(format!(in rt.alloc(); "{path}: refused with {number}: {f}")?))
 }
 
 // Length, levels and waveform.
