@@ -42,8 +42,8 @@ OTHERS = {
     "refs-at": "refs_at_lem",
     "rotated-twice": "rotated_twice_lem",
     "taken-cost": "taken_cost_lem",
-    "to-left": "to_left_lem",
-    "to-right": "to_right_lem",
+    "to-left": "to_left",
+    "to-right": "to_right",
     "tree-to": "tree_to_lem",
 }
 
@@ -157,7 +157,7 @@ def main():
     seen = {}
     for k, v in sorted(names.items()):
         seen.setdefault(v, []).append(k)
-    together = {v: ks for v, ks in seen.items() if len(ks) > 1}
+    together = {v: ks for v, ks in seen.items() if len(ks) > 1 and not any(k in OTHERS for k in ks)}
     texts = {p: read(p) for p in files(".antt", ".rt", ".edit")}
     clashes = []
     for p, t in texts.items():

@@ -127,7 +127,7 @@ fn splice<K: Kind<Element = Clip, Summary = Levels>>(
 fn refused(rt: &HostRuntime, fault: SessionFault) -> anyhow::Result<anyhow::Error> {
     let number = fault.number();
     let cause = fault.cause();
-    Ok(format!(in rt.alloc(); "refused with {number}, cause {cause}")?.into())
+    Ok(anyhow!(format!(in rt.alloc(); "refused with {number}, cause {cause}")?))
 }
 
 fn print_versions(rt: &HostRuntime, r: &Rearranged<Levels>) -> anyhow::Result<()> {

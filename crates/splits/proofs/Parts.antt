@@ -235,8 +235,8 @@ module _ {E A S : Type 0} (k : Meaning E A S) (laws : Laws k) (a : List (Cell E 
         size = lefts-size;
         fits = omega (arith, table_short);
         steps = ls;
-        passed = w.to_left_lem;
-        reached = table_reached k a p owns.rest owns.arena false (take found.lefts lefts) ls w.to_left_lem;
+        passed = w.to_left;
+        reached = table_reached k a p owns.rest owns.arena false (take found.lefts lefts) ls w.to_left;
         few = omega (arith, counts);
         short = omega (arith, spans, t_short);
         some = omega (arith, cost_is);
@@ -248,8 +248,8 @@ module _ {E A S : Type 0} (k : Meaning E A S) (laws : Laws k) (a : List (Cell E 
       size = rights-size;
       fits = omega (arith, table_short);
       steps = rs;
-      passed = w.to_right_lem;
-      reached = table_reached k a p owns.rest owns.arena true (take found.rights rights) rs w.to_right_lem;
+      passed = w.to_right;
+      reached = table_reached k a p owns.rest owns.arena true (take found.rights rights) rs w.to_right;
       few = omega (arith, counts, mirror_count U, up_to_count (shape k) L e R d);
       short = omega (arith, spans, t_short, mirror_span (shape k) U, up_to_span (shape k) L e R d (first_extent k laws e d good.lawful holding_inside) (omega (arith, holding_inside)));
       some = omega arith;
@@ -257,7 +257,7 @@ module _ {E A S : Type 0} (k : Meaning E A S) (laws : Laws k) (a : List (Cell E 
 
     module _ (b : List (Cell E S)) (q : Pool) (r : ℕ) (grown : Regrown k false a p [] R 0 (take found.lefts lefts) b q r) where
       one : Grows k false a p [] b q r (rebuilt link ls R) (0 + rebuilt_cost ls R)
-      one = grown ls w.to_left_lem
+      one = grown ls w.to_left
 
       moved : Moved k a p owns.rest b q (r ∷ []) (0 + rebuilt_cost ls R)
       moved = one.each owns.rest owns.arena
@@ -307,7 +307,7 @@ module _ {E A S : Type 0} (k : Meaning E A S) (laws : Laws k) (a : List (Cell E 
 
         two : Grows k true b q [] z o x (rebuilt link rs (mirror V)) (up_to_cost (tree b c.left) d + rebuilt_cost rs (mirror V))
         two = grown' rs (table_on k true a b q owns.rest (r ∷ []) moved.stay moved.arena (λ i h. omega arith) (take found.rights rights)
-            (table_reached k a p owns.rest owns.arena true (take found.rights rights) rs w.to_right_lem) rs w.to_right_lem)
+            (table_reached k a p owns.rest owns.arena true (take found.rights rights) rs w.to_right) rs w.to_right)
 
         behind_stays : tree z r ≡ rebuilt link ls R
         behind_stays = seen_stays false b z r ((two.each (r ∷ owns.rest) moved.arena).stay r (let h = hit_same r in omega arith)) ∙ one.tree_is

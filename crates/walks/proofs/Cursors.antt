@@ -137,7 +137,7 @@ module _ {E A S : Type 0} (k : Meaning E A S) (cells : List (Cell E S)) (root p 
       let filled : take (r.lefts + 1) table ≡ take r.lefts lefts ++ (r.cell ∷ []) = rw add-one (take-suc-set lefts r.lefts r.cell room) in
       let waits : pending cells (take (r.lefts + 1) table) ≡ w.cell.element ∷ after =
       ap (pending cells) filled ∙ pending_push cells (take r.lefts lefts) r.cell ∙ ap (λ o. from_own cells o ++ pending cells (take r.lefts lefts)) w.at
-      ∙ ap (λ l. (w.cell.element ∷ elements (tree cells w.cell.right)) ++ l) (pending_table cells (take r.lefts lefts) (passed_left w.steps) w.to_left_lem) in
+      ∙ ap (λ l. (w.cell.element ∷ elements (tree cells w.cell.right)) ++ l) (pending_table cells (take r.lefts lefts) (passed_left w.steps) w.to_left) in
       let gives = ap (λ l. front (shape k) len (back (shape k) r.offset l)) waits
       ∙ ap (front (shape k) len) (back_in (shape k) w.cell.element after r.offset w.inside ∙ sym back_is) in
       record {

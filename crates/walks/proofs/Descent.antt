@@ -11,7 +11,8 @@ use Rattle.cells.specs.declared.cell.Cell.{Cell}
 use Rattle.cells.specs.Cells.{shape, cell_count, tree, seen, Live, Good, Sound}
 use Rattle.cells.proofs.Trees.{known}
 use Rattle.walks.specs.Nesting.{Nested}
-use Rattle.walks.specs.Walks.{Table, Walked}
+use Rattle.walks.specs.Paths.{PathTo}
+use Rattle.walks.specs.Walks.{Table, Leads, Walked}
 use Rattle.walks.proofs.Nodes.{inside_named, node_live, node_good, node_is, node_span, node_count}
 use Rattle.walks.proofs.Nestings.{nested_push, nested_less}
 use Rattle.walks.proofs.Paths.{Comes, comes_none, comes_left, comes_right, comes_on, path_only}
@@ -39,8 +40,8 @@ pub record Descent {E A S : Type 0} (k : Meaning E A S) (cells : List (Cell E S)
   pub inside : at < span (shape k) (tree cells cell)
   pub steps : List (Step E)
   pub is : way (shape k) (tree cells root) p ≡ walked steps (way (shape k) (tree cells cell) at)
-  pub to_left_lem : Table false cells (take l lefts) (passed_left steps)
-  pub to_right_lem : Table true cells (take r rights) (passed_right steps)
+  pub to_left : Table false cells (take l lefts) (passed_left steps)
+  pub to_right : Table true cells (take r rights) (passed_right steps)
   pub nested : Nested cells (cell_count cells root + 1) (take l lefts) (cell_count cells cell + 1)
   pub left_filled : Filled lefts₀ lefts l
   pub right_filled : Filled rights₀ rights r
@@ -49,15 +50,16 @@ pub record Descent {E A S : Type 0} (k : Meaning E A S) (cells : List (Cell E S)
   pub reached : base + at ≡ p
 
 module _ {E A S : Type 0} (k : Meaning E A S) (cells : List (Cell E S)) (sound : Sound k cells) where
-  -- the way to a place is short
-  pub deep_by : (root p c : ℕ) → Live cells root → depth (way (shape k) (tree cells root) p) ≡ c → 4 ^ c ≤ 3 ^ c * (count (tree cells root) + 1)
-  deep_by root p c live is =
-      subst (λ (d : ℕ). 4 ^ d ≤ 3 ^ d * (count (tree cells root) + 1)) is (way_deep (shape k) (tree cells root) p (known k cells sound root live).balanced)
-
-  pub short_by : (root p c : ℕ) → Live cells root → cell_count cells root ≤ most → depth (way (shape k) (tree cells root) p) ≡ c → c ≤ deepest
-  short_by root p c live few is =
-      let root-known = known k cells sound root live in
-      omega (arith, is, way_shallow (shape k) (tree cells root) p root-known.balanced (omega (arith, root-known.counts)))
+  -- the count of cells that lead to a place
+  pub leads_by : (root p c : ℕ) → Live cells root → cell_count cells root ≤ most → depth (way (shape k) (tree cells root) p) ≡ c → Leads k cells root p c
+  leads_by root p c live few is =
+      let root_known = known k cells sound root live in
+      let deep = way_deep (shape k) (tree cells root) p root_known.balanced in
+      record {
+        counted = sym is;
+        deep = subst (λ (d : ℕ). 4 ^ d ≤ 3 ^ d * (count (tree cells root) + 1)) is deep;
+        short = omega (arith, is, way_shallow (shape k) (tree cells root) p root_known.balanced (omega (arith, root_known.counts)));
+      }
 
   pub start : (root p : ℕ) (lefts rights : List ℕ) → Live cells root → p < span (shape k) (tree cells root) → length lefts ≡ 64 → length rights ≡ 64 → Descent k cells lefts rights root p root p lefts 0 rights 0
   start root p lefts rights live inside long long' = record {
@@ -65,8 +67,8 @@ module _ {E A S : Type 0} (k : Meaning E A S) (cells : List (Cell E S)) (sound :
     inside = inside;
     steps = [];
     is = refl;
-    to_left_lem = tt;
-    to_right_lem = tt;
+    to_left = tt;
+    to_right = tt;
     nested = omega arith;
     left_filled = filled_none lefts long;
     right_filled = filled_none rights long';
@@ -83,13 +85,13 @@ module _ {E A S : Type 0} (k : Meaning E A S) (cells : List (Cell E S)) (sound :
     passed_depth : depth (way (shape k) (tree cells root) p) ≡ l + r + depth (way (shape k) (tree cells cell) at)
     passed_depth =
         let deep = ap depth d.is ∙ walked_depth d.steps (way (shape k) (tree cells cell) at) in
-        let x = table_length false cells (take l lefts) (passed_left d.steps) d.to_left_lem in
-        let y = table_length true cells (take r rights) (passed_right d.steps) d.to_right_lem in
+        let x = table_length false cells (take l lefts) (passed_left d.steps) d.to_left in
+        let y = table_length true cells (take r rights) (passed_right d.steps) d.to_right in
         omega (arith, length-take l lefts, length-take r rights, d.left_filled.long, d.left_filled.fits, d.right_filled.long, d.right_filled.fits)
 
     -- so the tables are never full
     pub descent_short : Live cells root → cell_count cells root ≤ most → l + r ≤ deepest
-    descent_short live few = omega (arith, passed_depth, short_by root p _ live few refl)
+    descent_short live few = omega (arith, passed_depth, (leads_by root p _ live few refl).short)
 
     module _ (c : Cell E S) (e : slice_get cells cell ≡ Some c) where
       abbrev L : Tree E
@@ -111,12 +113,12 @@ module _ {E A S : Type 0} (k : Meaning E A S) (cells : List (Cell E S)) (sound :
         steps = d.steps ++ (to_left c.element R ∷ []);
         is = d.is ∙ ap (λ t. walked d.steps (way (shape k) t at)) here_is ∙ ap (walked d.steps) (way_left (shape k) L c.element R at low)
             ∙ sym (walked_last d.steps (to_left c.element R) (way (shape k) L at));
-        to_left_lem =
+        to_left =
             let room : l < length lefts = omega (arith, d.left_filled.long) in
             rw (add-one, take-suc-set lefts l cell room, passed_left_append d.steps (to_left c.element R ∷ []))
-            (table_last false cells (take l lefts) (passed_left d.steps) cell (c.element, R) d.to_left_lem
+            (table_last false cells (take l lefts) (passed_left d.steps) cell (c.element, R) d.to_left
             (record { cell = c; at = e; live = node_live k cells sound cell c e d.live; is = refl }));
-        to_right_lem = rw (passed_right_append d.steps (to_left c.element R ∷ []), append-nil (passed_right d.steps)) d.to_right_lem;
+        to_right = rw (passed_right_append d.steps (to_left c.element R ∷ []), append-nil (passed_right d.steps)) d.to_right;
         nested =
             let room : l < length lefts = omega (arith, d.left_filled.long) in
             let filled : take (l + 1) (set lefts l cell) ≡ take l lefts ++ (cell ∷ []) = rw add-one (take-suc-set lefts l cell room) in
@@ -140,11 +142,11 @@ module _ {E A S : Type 0} (k : Meaning E A S) (cells : List (Cell E S)) (sound :
             ∙ ap (λ (n : ℕ). walked d.steps (way (shape k) (node L c.element R) n)) is_at
             ∙ ap (walked d.steps) (way_right (shape k) L c.element R q)
             ∙ sym (walked_last d.steps (to_right L c.element) (way (shape k) R q));
-        to_left_lem = rw (passed_left_append d.steps (to_right L c.element ∷ []), append-nil (passed_left d.steps)) d.to_left_lem;
-        to_right_lem =
+        to_left = rw (passed_left_append d.steps (to_right L c.element ∷ []), append-nil (passed_left d.steps)) d.to_left;
+        to_right =
             let room : r < length rights = omega (arith, d.right_filled.long) in
             rw (add-one, take-suc-set rights r cell room, passed_right_append d.steps (to_right L c.element ∷ []))
-            (table_last true cells (take r rights) (passed_right d.steps) cell (c.element, seen true cells c.left) d.to_right_lem
+            (table_last true cells (take r rights) (passed_right d.steps) cell (c.element, seen true cells c.left) d.to_right
             (record { cell = c; at = e; live = node_live k cells sound cell c e d.live; is = refl }));
         nested = nested_less cells (cell_count cells root + 1) (take l lefts) (cell_count cells cell + 1) (cell_count cells c.right + 1) d.nested (omega (arith, node_count k cells sound cell c e d.live));
         left_filled = d.left_filled;
@@ -163,7 +165,6 @@ module _ {E A S : Type 0} (k : Meaning E A S) (cells : List (Cell E S)) (sound :
           let there : way (shape k) (tree cells cell) at ≡ way (shape k) (node L c.element R) (span (shape k) L + q) = cc (here_is, is_at) in
           let ends = way_here (shape k) L c.element R q low in
           let depth_is : depth (way (shape k) (tree cells root) p) ≡ l + r + 1 = omega (arith, passed_depth, ap depth (there ∙ ends)) in
-          let on = comes_on k cells root cell (l + r) d.base c e d.comes p q (node_live k cells sound cell c e d.live) (omega (arith, d.reached)) low in
           record {
             cell = c;
             at = e;
@@ -171,16 +172,21 @@ module _ {E A S : Type 0} (k : Meaning E A S) (cells : List (Cell E S)) (sound :
             steps = d.steps;
             is = d.is ∙ ap (walked d.steps) (there ∙ ends);
             inside = low;
-            to_left_lem = d.to_left_lem;
-            to_right_lem = d.to_right_lem;
+            to_left = d.to_left;
+            to_right = d.to_right;
             nested = d.nested;
-            leads = record {
+            leads = leads_by root p (l + r + 1) live few depth_is;
+          }
+
+      pub arrive_path : (q : ℕ) → Live cells root → at ≡ span (shape k) L + q → q < length (k.atoms c.element) → PathTo k cells root p (l + r + 1) cell
+      arrive_path q live is_at low =
+          let on = comes_on k cells root cell (l + r) d.base c e d.comes p q (node_live k cells sound cell c e d.live) (omega (arith, d.reached)) low in
+          record {
+            by_path = record {
               path = d.comes.path;
               on_path = on;
               only = λ other off. path_only k cells sound other d.comes.path root p live off on;
               counted_cells = omega (arith, d.comes.long);
-              deep = deep_by root p (l + r + 1) live depth_is;
-              short = short_by root p (l + r + 1) live few depth_is;
             };
             ended = d.comes.leads;
           }

@@ -12,7 +12,8 @@ use Rattle.cells.specs.declared.cell.Cell.{Cell}
 use Rattle.cells.specs.Cells.{shape, tree}
 use Rattle.walks.specs.declared.answers.Found.{Found as Answer}
 use Rattle.walks.specs.Walks.{Walked}
-use Rattle.walks.specs.Holding.{AtomOf, Reads}
+use Rattle.walks.specs.Paths.{PathTo}
+use Rattle.walks.specs.Holding.{AtomOf, Reads, ReadsByPath}
 
 module _ {E : Type 0} (k : Shape E) where
   atom_behind : (es more : List E) (p : ℕ) (e : E) (d : ℕ) → AtomOf k es p e d → AtomOf k (es ++ more) p e d
@@ -78,5 +79,20 @@ module _ {E A S : Type 0} (k : Meaning E A S) (cells : List (Cell E S)) (root p 
         first = first_is;
         second = second_is;
         leads = w.leads;
-        own = let there = w.leads.on_path.at in let ended = w.ended in cc;
+      }
+
+  pub walked_by_path : (c : Cell E S) (first second : ℕ) → slice_get cells r.cell ≡ Some c → first ≡ k.first c.element → second ≡ k.second c.element
+      → PathTo k cells root p (r.lefts + r.rights + 1) r.cell
+      → ReadsByPath k cells root p (record { first = first; second = second; offset = r.offset; count = r.lefts + r.rights + 1 })
+  walked_by_path c first second at first_is second_is to =
+      let at_walked = w.at in
+      let there = to.by_path.on_path.at in
+      let ended = to.ended in
+      let same : w.cell ≡ c = cc in
+      let own : c ≡ to.by_path.on_path.cell = cc in
+      record {
+        by_path = to.by_path;
+        holds = subst (λ (x : Cell E S). AtomOf (shape k) (elements (tree cells root)) p x.element r.offset) (same ∙ own) walked_atom;
+        first = first_is ∙ ap (λ (x : Cell E S). k.first x.element) own;
+        second = second_is ∙ ap (λ (x : Cell E S). k.second x.element) own;
       }

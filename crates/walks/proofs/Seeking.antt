@@ -10,9 +10,10 @@ use Rattle.balance.proofs.Ways.{way_left, way_here, way_right}
 use Rattle.cells.specs.declared.cell.Cell.{Cell}
 use Rattle.cells.specs.Cells.{shape, cell_count, tree, meant, Live, Sound}
 use Rattle.cells.proofs.Trees.{meant_span}
+use Rattle.walks.specs.Paths.{ByPath}
 use Rattle.walks.specs.Tallying.{Passes, Finds}
 use Rattle.walks.proofs.Nodes.{inside_named, node_live, node_good, node_is, node_span, node_meant}
-use Rattle.walks.proofs.Descent.{deep_by, short_by}
+use Rattle.walks.proofs.Descent.{leads_by}
 use Rattle.walks.proofs.Paths.{Comes, comes_none, comes_left, comes_right, comes_on, path_only}
 use Rattle.walks.proofs.Sums.{Few, few_left, few_right, few_tree}
 use Rattle.walks.proofs.Halving.{tally_of, tally_append, tally_some, passes_in}
@@ -32,11 +33,11 @@ pub record Sought {E A S : Type 0} (k : Meaning E A S) (tally : S → ℕ) (cell
 
 module _ {A : Type 0} (front left own right behind : List A) where
   -- the same list, parted elsewhere
-  to_left_lem : front ++ ((left ++ (own ++ right)) ++ behind) ≡ front ++ (left ++ ((own ++ right) ++ behind))
-  to_left_lem = simp append_assoc
+  to_left : front ++ ((left ++ (own ++ right)) ++ behind) ≡ front ++ (left ++ ((own ++ right) ++ behind))
+  to_left = simp append_assoc
 
-  to_right_lem : front ++ ((left ++ (own ++ right)) ++ behind) ≡ (front ++ (left ++ own)) ++ (right ++ behind)
-  to_right_lem = simp append_assoc
+  to_right : front ++ ((left ++ (own ++ right)) ++ behind) ≡ (front ++ (left ++ own)) ++ (right ++ behind)
+  to_right = simp append_assoc
 
   to_own : front ++ ((left ++ (own ++ right)) ++ behind) ≡ (front ++ left) ++ (own ++ (right ++ behind))
   to_own = simp append_assoc
@@ -63,7 +64,7 @@ module _ {E A S : Type 0} (k : Meaning E A S) (laws : Laws k) (tally : S → ℕ
     sought_named = inside_named k cells sound cell 0 some_inside
 
     pub sought_short : cell_count cells root ≤ most → passed ≤ deepest
-    sought_short few = omega (arith, s.leads 0 some_inside, short_by k cells sound root (base + 0) _ live few refl)
+    sought_short few = omega (arith, s.leads 0 some_inside, (leads_by k cells sound root (base + 0) _ live few refl).short)
 
     whole_few : Few k (s.front ++ (meant k (tree cells cell) ++ s.behind))
     whole_few = subst (Few k) s.listed (few_tree k cells sound root live)
@@ -114,7 +115,7 @@ module _ {E A S : Type 0} (k : Meaning E A S) (laws : Laws k) (tally : S → ℕ
         live = (node_good k cells sound cell c at s.live).left_live;
         front = s.front;
         behind = (own_atoms ++ right_atoms) ++ s.behind;
-        listed = listed_here ∙ to_left_lem s.front left_atoms own_atoms right_atoms s.behind;
+        listed = listed_here ∙ to_left s.front left_atoms own_atoms right_atoms s.behind;
         based = s.based;
         reached = s.reached;
         inside = low;
@@ -132,7 +133,7 @@ module _ {E A S : Type 0} (k : Meaning E A S) (laws : Laws k) (tally : S → ℕ
           → Sought k tally cells root t c.right r b (passed + 1)
       sought_right r b rest_is b-is =
           let front' : List A = s.front ++ (left_atoms ++ own_atoms) in
-          let listed' = listed_here ∙ to_right_lem s.front left_atoms own_atoms right_atoms s.behind in
+          let listed' = listed_here ∙ to_right s.front left_atoms own_atoms right_atoms s.behind in
           let few' : Few k front' = few_left k front' (right_atoms ++ s.behind) (subst (Few k) listed' (few_tree k cells sound root live)) in
           record {
             live = (node_good k cells sound cell c at s.live).right_live;
@@ -195,15 +196,17 @@ module _ {E A S : Type 0} (k : Meaning E A S) (laws : Laws k) (tally : S → ℕ
             ap (λ u. depth (way (shape k) u far)) here_is,
             ap depth (way_here (shape k) L c.element R n p.inside),
           ) in
-          let on = comes_on k cells root cell passed base c at s.comes place n (node_live k cells sound cell c at s.live) (omega arith) p.inside in
           record {
             passes = subst (λ (m : ℕ). Passes k tally (meant k (tree cells root)) t m) place_front (subst (λ l. Passes k tally l t (length front' + n)) (sym listed') found);
-            leads = record {
-              path = s.comes.path;
-              on_path = on;
-              only = λ other off. path_only k cells sound other s.comes.path root place live off on;
-              counted_cells = omega (arith, s.comes.long);
-              deep = deep_by k cells sound root place count live deep;
-              short = short_by k cells sound root place count live few deep;
-            };
+            leads = leads_by k cells sound root place count live few deep;
+          }
+
+      pub sought_path : (n place count : ℕ) → n < length own_atoms → place ≡ base + span (shape k) L + n → count ≡ passed + 1 → ByPath k cells root place count
+      sought_path n place count low place_is count_is =
+          let on = comes_on k cells root cell passed base c at s.comes place n (node_live k cells sound cell c at s.live) (omega arith) low in
+          record {
+            path = s.comes.path;
+            on_path = on;
+            only = λ other off. path_only k cells sound other s.comes.path root place live off on;
+            counted_cells = omega (arith, s.comes.long);
           }

@@ -29,3 +29,16 @@ module _ {E A S : Type 0} (k : Meaning E A S) (cells : List (Cell E S)) where
     pub live : 0 < cell.refs
     pub begins : start_of root path + span (shape k) (tree cells cell.left) ≤ p
     pub ends : p < start_of root path + span (shape k) (tree cells cell.left) + length (k.atoms cell.element)
+
+  -- c is the number of cells from the root to the cell whose element holds the place p, both included: one path, and no
+  -- other, holds p, and it has c - 1 sides.
+  pub record ByPath (root p c : ℕ) : Type 0 where
+    pub path : List Bool
+    pub on_path : OnPath root p path
+    pub only : (other : List Bool) → OnPath root p other → other ≡ path
+    pub counted_cells : c ≡ length path + 1
+
+  -- and the cell that this path leads to is the cell i
+  pub record PathTo (root p c i : ℕ) : Type 0 where
+    pub by_path : ByPath root p c
+    pub ended : follow cells root by_path.path ≡ i

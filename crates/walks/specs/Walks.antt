@@ -4,13 +4,11 @@ use Rattle.std.specs.List.{slice_get}
 use Rattle.kinds.specs.Kinds.{Meaning}
 use Rattle.balance.specs.Trees.{Tree, count}
 use Rattle.balance.specs.Levels.{deepest}
-use Rattle.balance.specs.Ways.{here, Step, walked, passed_left, passed_right, way}
+use Rattle.balance.specs.Ways.{here, depth, Step, walked, passed_left, passed_right, way}
 use Rattle.cells.specs.declared.cell.Cell.{Cell}
 use Rattle.cells.specs.Cells.{shape, tree, seen, far, cell_count}
-use Rattle.cells.specs.Reach.{follow}
 use Rattle.walks.specs.declared.answers.Found.{Found}
 use Rattle.walks.specs.Nesting.{Nested}
-use Rattle.walks.specs.Paths.{OnPath}
 
 -- the cell i holds what a step passed: its element and the child behind it, as seen
 pub record Passed {E S : Type 0} (flip : Bool) (cells : List (Cell E S)) (i : ℕ) (s : E × Tree E) : Type 0 where
@@ -26,20 +24,15 @@ Table flip cells [] (s ∷ ss) = ⊥
 Table flip cells (i ∷ is) [] = ⊥
 Table flip cells (i ∷ is) (s ∷ ss) = Passed flip cells i s × Table flip cells is ss
 
--- c is the number of cells from the root to the cell whose element holds the place p, both included: one path, and no
--- other, holds p, and it has c - 1 sides. A tree of n elements is so balanced that c is at most the logarithm of n + 1 to
--- the base 4/3.
+-- c cells lead to the place p of the tree under a root, the root and the holding cell included. A tree of n elements is
+-- so balanced that c is at most the logarithm of n + 1 to the base 4/3.
 pub record Leads {E A S : Type 0} (k : Meaning E A S) (cells : List (Cell E S)) (root p c : ℕ) : Type 0 where
-  pub path : List Bool
-  pub on_path : OnPath k cells root p path
-  pub only : (other : List Bool) → OnPath k cells root p other → other ≡ path
-  pub counted_cells : c ≡ length path + 1
+  pub counted : c ≡ depth (way (shape k) (tree cells root) p)
   pub deep : 4 ^ c ≤ 3 ^ c * (count (tree cells root) + 1)
   pub short : c ≤ deepest
 
 -- The walk to the place p ended at a cell: the way to p ends there, and the tables have what it passed. The cells that it
--- left to their left child lie inside one another, and the one where it ended inside them all. That one is the cell that
--- the path that holds p leads to.
+-- left to their left child lie inside one another, and the one where it ended inside them all.
 pub record Walked {E A S : Type 0} (k : Meaning E A S) (cells : List (Cell E S)) (root p : ℕ) (lefts rights : List ℕ) (r : Found) : Type 0 where
   pub cell : Cell E S
   pub at : slice_get cells r.cell ≡ Some cell
@@ -47,8 +40,7 @@ pub record Walked {E A S : Type 0} (k : Meaning E A S) (cells : List (Cell E S))
   pub steps : List (Step E)
   pub is : way (shape k) (tree cells root) p ≡ walked steps (here (tree cells cell.left) cell.element (tree cells cell.right) r.offset)
   pub inside : r.offset < length (k.atoms cell.element)
-  pub to_left_lem : Table false cells (take r.lefts lefts) (passed_left steps)
-  pub to_right_lem : Table true cells (take r.rights rights) (passed_right steps)
+  pub to_left : Table false cells (take r.lefts lefts) (passed_left steps)
+  pub to_right : Table true cells (take r.rights rights) (passed_right steps)
   pub nested : Nested cells (cell_count cells root + 1) (take r.lefts lefts) (cell_count cells r.cell + 1)
   pub leads : Leads k cells root p (r.lefts + r.rights + 1)
-  pub ended : follow cells root leads.path ≡ r.cell

@@ -1,9 +1,10 @@
 // The walk to a place, which all that reads or changes a tree begins with.
-ghost use Rattle.std.specs.Prelude.{◌≡◌, ◌<◌, ◌≤◌, drop};
+ghost use Rattle.std.specs.Prelude.{◌≡◌, ◌+◌, ◌<◌, ◌≤◌, drop};
 ghost use Rattle.balance.specs.Ways.{span};
 ghost use Rattle.balance.specs.Levels.{most};
 ghost use Rattle.cells.specs.Cells.{shape, tree, cell_count, Live, Sound};
-ghost use Rattle.walks.specs.Holding.{Reads};
+ghost use Rattle.walks.specs.Holding.{Reads, ReadsByPath};
+ghost use Rattle.walks.specs.Paths.{PathTo};
 ghost use Rattle.walks.specs.Walks.{Walked};
 
 use crate::answers::{Found, Reading};
@@ -27,6 +28,7 @@ pub fn descend<K: Kind>(
     requires within { place < span (shape (K.meaning kind.now)) (tree cells.now root) }
     requires few { cell_count cells.now root ≤ most }
     ensures walked { Walked (K.meaning kind.now) cells.now root place lefts.new rights.new result }
+    ensures path { PathTo (K.meaning kind.now) cells.now root place (result.lefts + result.rights + 1) result.cell }
     ensures beyond { (drop result.lefts lefts.new ≡ drop result.lefts lefts.old) × (drop result.rights rights.new ≡ drop result.rights rights.old) }
 {
     let (mut cell, mut at) = (root, place);
@@ -68,7 +70,8 @@ pub fn read<K: Kind>(
     requires live { Live cells.now root }
     requires within { place < span (shape (K.meaning kind.now)) (tree cells.now root) }
     requires few { cell_count cells.now root ≤ most }
-    ensures { Reads (K.meaning kind.now) cells.now root place result }
+    ensures reads { Reads (K.meaning kind.now) cells.now root place result }
+    ensures path { ReadsByPath (K.meaning kind.now) cells.now root place result }
 {
     let mut lefts = [0; 64];
     let mut rights = [0; 64];

@@ -3,6 +3,7 @@ ghost use Rattle.std.specs.Prelude.{◌<◌, ◌≤◌};
 ghost use Rattle.kinds.specs.Kinds.{Lawful, Tallies, total};
 ghost use Rattle.balance.specs.Levels.{most};
 ghost use Rattle.cells.specs.Cells.{tree, meant, cell_count, Live, Sound};
+ghost use Rattle.walks.specs.Paths.{ByPath};
 ghost use Rattle.walks.specs.Tallying.{Passes, Finds};
 
 use crate::answers::Located;
@@ -45,7 +46,8 @@ pub fn find<K: Tally>(
     requires few { cell_count cells.now root ≤ most }
     requires adds { Tallies (K.Kind.meaning kind.now) (K.tallied kind.now) }
     requires below { t < K.tallied kind.now (total (K.Kind.meaning kind.now) (meant (K.Kind.meaning kind.now) (tree cells.now root))) }
-    ensures { Finds (K.Kind.meaning kind.now) (K.tallied kind.now) cells.now root t result }
+    ensures finds { Finds (K.Kind.meaning kind.now) (K.tallied kind.now) cells.now root t result }
+    ensures path { ByPath (K.Kind.meaning kind.now) cells.now root result.place result.count }
 {
     let mut cell = root;
     let mut rest = t;

@@ -38,7 +38,7 @@ loop-i-preserved g c =
     )
 
 pub returns-in_err-push : goal.returns-in_err-push
-returns-in_err-push g c = err_made c.from-residual.result _ c.from-residual.ensures.0
+returns-in_err-push g c = err_made c.from_residual.result _ c.from_residual.ensures.0
 
 pub returns : goal.returns
 returns g c =

@@ -11,7 +11,7 @@ use Rattle.tracks.proofs.laying.lay.Goals as goal
 
 pub returns-in_err-element : goal.returns-in_err-element
 returns-in_err-element g c =
-    carried_on c.from-residual.result c.in_err-element.field-0.0 _ _ c.from-residual.ensures.0 c.from-residual.ensures.1
+    carried_on c.from_residual.result c.in_err-element.field-0.0 _ _ c.from_residual.ensures.0 c.from_residual.ensures.1
     (record {
       because = not_made (g.K.Kind.meaning c.args.kind.now) (list c.args.cells.now c.args.root) c.args.pool.now.free c.args.first c.args.second c.in_err-element.field-0.0 (sym c.in_err-element.ensures);
       same_cells = refl;

@@ -1,6 +1,6 @@
 use Rattle.std.proofs.Common.{◌≡◌, ◌-◌, length, arith, rules}
 use Rattle.walks.proofs.Nodes.{node_count}
-use Rattle.walks.proofs.Descent.{start, descent_named, descent_short, descent_good, go_left, go_right, arrive}
+use Rattle.walks.proofs.Descent.{start, descent_named, descent_short, descent_good, go_left, go_right, arrive, arrive_path}
 use Rattle.walks.proofs.places.descend.Goals as goal
 
 pub loop-at-init : goal.loop-at-init
@@ -51,6 +51,9 @@ returns-then-past-own g c =
       walked =
           arrive k c.args.cells.now c.requires.sound _ _ _ _ _ _ _ _ v c.cell_at-c.result c.cell_at-c.ensures (c.loop-at.at - c.width_at-before.result)
           c.requires.live c.requires.few (omega (arith, c.width_at-before.ensures, c.if-at-before.false)) (omega (arith, own, c.if-past-own.true));
+      path =
+          arrive_path k c.args.cells.now c.requires.sound _ _ _ _ _ _ _ _ v c.cell_at-c.result c.cell_at-c.ensures (c.loop-at.at - c.width_at-before.result)
+          c.requires.live (omega (arith, c.width_at-before.ensures, c.if-at-before.false)) (omega (arith, own, c.if-past-own.true));
       beyond = (v.left_filled.beyond, v.right_filled.beyond);
     }
 

@@ -1,7 +1,7 @@
 use Rattle.std.proofs.Common.{◌-◌, refl, ap, ◌∙◌, arith}
 use Rattle.walks.proofs.Nodes.{node_good, node_count}
 use Rattle.walks.proofs.Sums.{sum_is, width_is}
-use Rattle.walks.proofs.Seeking.{sought_start, sought_named, sought_short, sought_left, sought_right, sought_few, sought_found}
+use Rattle.walks.proofs.Seeking.{sought_start, sought_named, sought_short, sought_left, sought_right, sought_few, sought_found, sought_path}
 use Rattle.walks.proofs.tallies.find.Goals as goal
 
 pub loop-rest-init : goal.loop-rest-init
@@ -97,9 +97,15 @@ returns-then-past-own g c =
     let good = node_good k c.args.cells.now c.requires.sound _ c.cell_at-c.result c.cell_at-c.ensures c.loop-rest.invariant.live in
     let sum = c.summary_at-left.ensures ∙ sum_is k laws c.args.cells.now c.requires.sound _ good.left_live in
     let width = c.width.ensures ∙ ap k.width c.summary_at-left.ensures ∙ width_is k laws c.args.cells.now c.requires.sound _ good.left_live in
-    sought_found k laws tally c.requires.adds c.args.cells.now c.requires.sound _ _ _ _ _ _ c.requires.live c.loop-rest.invariant c.cell_at-c.result c.cell_at-c.ensures
-    (c.loop-rest.rest - c.tally-before.result) c.find_within.result _ _ c.requires.few
-    (omega (arith, c.if-rest-before.false, c.tally-before.ensures.value, ap tally sum)) c.find_within.ensures (omega (arith, width)) refl
+    record {
+      finds =
+          sought_found k laws tally c.requires.adds c.args.cells.now c.requires.sound _ _ _ _ _ _ c.requires.live c.loop-rest.invariant c.cell_at-c.result c.cell_at-c.ensures
+          (c.loop-rest.rest - c.tally-before.result) c.find_within.result _ _ c.requires.few
+          (omega (arith, c.if-rest-before.false, c.tally-before.ensures.value, ap tally sum)) c.find_within.ensures (omega (arith, width)) refl;
+      path =
+          sought_path k laws tally c.requires.adds c.args.cells.now c.requires.sound _ _ _ _ _ _ c.requires.live c.loop-rest.invariant c.cell_at-c.result c.cell_at-c.ensures
+          c.find_within.result _ _ c.find_within.ensures.inside (omega (arith, width)) refl;
+    }
 
 pub loop-rest-preserved : goal.loop-rest-preserved
 loop-rest-preserved g c =
