@@ -1,14 +1,12 @@
 -- Levels of samples that come one by one, or block by block.
 use Rattle.std.proofs.Common.{◌≡◌, ℕ, zero, suc, ◌+◌, ◌-◌, ◌<◌, ◌≤◌, min, List, [], ◌∷◌, ◌++◌, length, get_or, take, drop, ℤ, pos, sym, refl, ap, ◌∙◌, arith, length-drop, length-take, w16, SFits}
-use Rattle.std.specs.Int.{int_max, int_min}
 use Rattle.std.specs.List.{AllByRecursion as All}
 use Rattle.std.proofs.ByRecursion.{All-take, All-drop}
 use Rattle.std.proofs.lemmas.List.{take_more}
 use Rattle.kinds.specs.Kinds.{total}
 use Rattle.reels.specs.Samples.{stretch}
 use Rattle.reels.proofs.Copies.{stretch_both}
-use Rattle.audio.specs.declared.levels.Levels.{Levels}
-use Rattle.audio.specs.Audio.{count_at_end, one_sample, no_samples, joined_levels, audio}
+use Rattle.audio.specs.Audio.{one_sample, joined_levels, audio}
 use Rattle.audio.specs.Levels.{measured, none_left, none_right, assoc}
 
 -- the levels of samples do not depend on the reel that has them

@@ -1,5 +1,5 @@
 -- Audio elements over the samples of a reel: stretches of it, by their first frame and their length.
-use Rattle.std.specs.Prelude.{ℕ, ◌+◌, Bool, true, false, cond, List, length, take, drop, ℤ, pos, negsuc, Ok, Err, Result, ◌==◌, nat_lt}
+use Rattle.std.specs.Prelude.{ℕ, ◌+◌, cond, List, length, take, drop, ℤ, pos, negsuc, Ok, Err, Result, ◌==◌, nat_lt}
 use Rattle.std.specs.Int.{int_max, int_min}
 use Rattle.faults.specs.declared.causes.Cause.{Cause}
 use Rattle.faults.specs.declared.causes.Cause.TheVariants.{NoExtent, PastReel}

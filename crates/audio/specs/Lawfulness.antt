@@ -1,7 +1,7 @@
 -- Audio over the samples of any reel is a lawful kind.
-use Rattle.std.specs.Prelude.{◌≡◌, ℕ, ◌+◌, ◌<◌, ◌≤◌, Bool, true, false, cond, List, [], ◌∷◌, length, take, drop, ℤ, Ok, Err, Result, FitsSigned, ◌==◌, nat_lt}
+use Rattle.std.specs.Prelude.{◌≡◌, ℕ, ◌+◌, ◌≤◌, Bool, true, false, cond, List, length, take, drop, ℤ, Ok, Err, FitsSigned, ◌==◌, nat_lt}
 use Rattle.std.proofs.Math.Path.{refl}
-use Rattle.std.proofs.Common.{sym, ap, subst, ◌∙◌, arith, length-take, length-drop, ltb-false}
+use Rattle.std.proofs.Common.{sym, ap, ◌∙◌, arith, length-take, length-drop, ltb-false}
 use Rattle.std.specs.Int.{w16}
 use Rattle.std.proofs.lemmas.Bool.{eqb-false}
 use Rattle.std.specs.List.{AllByRecursion as All}
@@ -11,10 +11,9 @@ use Rattle.faults.specs.declared.causes.Cause.{Cause}
 use Rattle.faults.specs.declared.causes.Cause.TheVariants.{NoExtent, PastReel}
 use Rattle.faults.specs.Numbers.{cause_number}
 use Rattle.reels.specs.Samples.{Bounds}
-use Rattle.kinds.specs.Kinds.{Meaning, Laws, Lawful, of_numbers, of_part, Within, IsAtom, Tallies, Joinable, total}
+use Rattle.kinds.specs.Kinds.{Laws, Lawful, of_numbers, of_part, IsAtom, Tallies, total}
 use Rattle.audio.specs.declared.clip.Clip.{Clip}
-use Rattle.audio.specs.declared.levels.Levels.{Levels}
-use Rattle.audio.specs.Audio.{clip, clip_made, clip_samples, count_at_end, one_sample, no_samples, joined_levels, audio}
+use Rattle.audio.specs.Audio.{clip, clip_samples, one_sample, joined_levels, audio}
 use Rattle.audio.specs.Levels.{Measured, measured, at_end_le, none_left, none_right, assoc}
 
 -- an element has a frame and lies within the reel

@@ -1,5 +1,5 @@
 -- Facts about the levels of samples that have 16 bits.
-use Rattle.std.specs.Prelude.{◌≡◌, ℕ, ◌+◌, ◌≤◌, cond, List, [], ◌∷◌, length, ℤ, pos, negsuc, FitsSigned, ◌==◌, int_lt, refl}
+use Rattle.std.specs.Prelude.{◌≡◌, ℕ, ◌≤◌, List, [], ◌∷◌, length, ℤ, pos, negsuc, FitsSigned, ◌==◌, int_lt, refl}
 use Rattle.std.proofs.Common.{ap, ◌∙◌, arith, lit<}
 use Rattle.std.specs.Int.{int_max, int_min, w16}
 use Rattle.std.specs.List.{AllByRecursion as All}
@@ -7,7 +7,7 @@ use Rattle.std.proofs.lemmas.Int.{ints, clamps}
 use Rattle.std.proofs.lemmas.Bool.{cond_both}
 use Rattle.kinds.specs.Kinds.{total}
 use Rattle.audio.specs.declared.levels.Levels.{Levels}
-use Rattle.audio.specs.Audio.{levels, count_at_end, one_sample, no_samples, joined_levels, audio}
+use Rattle.audio.specs.Audio.{levels, count_at_end, no_samples, joined_levels, audio}
 
 -- what holds of the levels of n samples
 pub record Measured (n : ℕ) (s : Levels) : Type 0 where

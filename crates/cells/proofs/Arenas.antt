@@ -1,18 +1,18 @@
 -- The invariant over cells, pool and roots, before and after each write.
-use Rattle.std.proofs.Common.{◌≡◌, ℕ, zero, suc, ◌+◌, ◌-◌, ◌*◌, ◌^◌, ◌<◌, ◌≤◌, min, Bool, true, false, cond, ◌≢◌, ◌⊎◌, List, [], ◌∷◌, ◌++◌, length, set, Some, None, Option, sym, refl, ap, ◌∙◌, subst, inl, inr, ⊎_elim, add-one, arith, length-set}
+use Rattle.std.proofs.Common.{◌≡◌, ℕ, ◌+◌, ◌-◌, ◌^◌, ◌<◌, ◌≤◌, true, false, ◌≢◌, List, [], ◌∷◌, length, set, Some, None, Option, sym, refl, ap, ◌∙◌, subst, ⊎_elim, add-one, arith, length-set}
 use Rattle.std.specs.List.{slice_get}
 use Rattle.std.proofs.lemmas.Bool.{cases_eq}
 use Rattle.kinds.specs.Kinds.{Meaning}
 use Rattle.cells.specs.declared.cell.Cell.{Cell}
 use Rattle.cells.specs.declared.pool.Pool.{Pool}
-use Rattle.cells.specs.Cells.{counted, cell_count, referred, refs_at, linked, Live, Good, Sound}
-use Rattle.cells.specs.Reach.{hit, occurs, Among, SameCell, Stays, AllStay, Remains, Takes}
-use Rattle.cells.specs.References.{links_if, links, Counted, used, Chain, Arena}
-use Rattle.cells.specs.Moves.{with_refs, retained_at, retained, Moved, Retains, owing, GivesUp}
+use Rattle.cells.specs.Cells.{counted, cell_count, referred, refs_at, linked, Live}
+use Rattle.cells.specs.Reach.{hit, occurs, Among, SameCell, AllStay, Remains, Takes}
+use Rattle.cells.specs.References.{links, Counted, Chain, Arena}
+use Rattle.cells.specs.Moves.{with_refs, retained_at, retained, Retains, GivesUp}
 use Rattle.cells.proofs.Lists.{some_in, none_past, nth_set_same, nth_set_other}
 use Rattle.cells.proofs.Staying.{stays_sym, stays_refl, takes_none, takes_refl, remains_stays}
-use Rattle.cells.proofs.Names.{hit_same, hit_other, links_live, links_free, links_set, used_set, names_few}
-use Rattle.cells.proofs.Writes.{here, remains_made, remains_recounted, remained_recounted, remained_freed, sound_recounted, sound_freed, chain_kept}
+use Rattle.cells.proofs.Names.{hit_same, hit_other, links_live, links_set, used_set, names_few}
+use Rattle.cells.proofs.Writes.{remains_recounted, remained_recounted, remained_freed, sound_recounted, sound_freed, chain_kept}
 
 module _ {E A S : Type 0} (k : Meaning E A S) (a : List (Cell E S)) (p : Pool) (rs : List ℕ) (arena : Arena k a p rs) where
   rooted_at : (i : ℕ) (o : Option (Cell E S)) → slice_get a i ≡ o → Among rs i → linked o

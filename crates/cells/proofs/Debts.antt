@@ -1,5 +1,5 @@
 -- The table of links that are to be given up, one after the other.
-use Rattle.std.proofs.Common.{◌≡◌, ℕ, zero, suc, ◌+◌, ◌-◌, ◌*◌, ◌^◌, ◌<◌, ◌≤◌, Bool, true, false, cond, ◌≢◌, ◌⊎◌, List, [], ◌∷◌, ◌++◌, length, get_or, take, set, replicate, Some, sym, refl, ap, ◌∙◌, subst, inl, inr, ⊎_elim, arith, length-set}
+use Rattle.std.proofs.Common.{◌≡◌, ℕ, ◌+◌, ◌*◌, ◌<◌, ◌≤◌, Bool, true, false, cond, ◌≢◌, List, [], ◌∷◌, ◌++◌, length, get_or, take, set, replicate, Some, sym, refl, ap, ◌∙◌, subst, ⊎_elim, arith, length-set}
 use Rattle.std.specs.List.{slice_get}
 use Rattle.std.proofs.lemmas.List.{take_more, take_more_set, get_or-set_same, get_or-set_other}
 use Rattle.std.proofs.lemmas.Bool.{cases_lt, cases_eq}
@@ -8,11 +8,10 @@ use Rattle.balance.specs.Levels.{Levels, most, deepest}
 use Rattle.balance.proofs.Levels.{levels_none, levels_join, levels_narrower, levels_few}
 use Rattle.cells.specs.declared.cell.Cell.{Cell}
 use Rattle.cells.specs.declared.pool.Pool.{Pool}
-use Rattle.cells.specs.Cells.{counted, cell_count, linked, Good}
-use Rattle.cells.specs.Reach.{hit, occurs, AllStay, Takes}
+use Rattle.cells.specs.Cells.{counted, cell_count, Good}
+use Rattle.cells.specs.Reach.{occurs, Takes}
 use Rattle.cells.specs.References.{used, Arena}
-use Rattle.cells.specs.Moves.{Moved, owing, GivesUp, Tapers, Owes, Pays, Releases}
-use Rattle.cells.proofs.Lists.{some_in}
+use Rattle.cells.specs.Moves.{owing, GivesUp, Tapers, Owes, Pays, Releases}
 use Rattle.cells.proofs.Staying.{occurs_append, takes_refl, takes_trans}
 use Rattle.cells.proofs.Names.{hit_other}
 use Rattle.cells.proofs.Arenas.{rerooted, stay_back, kept_none, owned_refs}

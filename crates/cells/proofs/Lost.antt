@@ -1,5 +1,5 @@
 -- What is in use is what the roots reach, and all else is free.
-use Rattle.std.proofs.Common.{◌≡◌, ℕ, zero, suc, ◌+◌, ◌<◌, ◌≤◌, min, max, Bool, true, false, ◌⊎◌, List, [], ◌∷◌, ◌++◌, length, take, Some, None, Option, sym, refl, ap, ◌∙◌, subst, inl, inr, ⊎_elim, arith}
+use Rattle.std.proofs.Common.{◌≡◌, ℕ, zero, suc, ◌+◌, ◌<◌, ◌≤◌, min, max, Bool, true, false, List, [], ◌∷◌, ◌++◌, length, take, Some, None, Option, refl, ap, ◌∙◌, subst, ⊎_elim, arith}
 use Rattle.std.specs.List.{slice_get}
 use Rattle.std.proofs.lemmas.List.{take_all}
 use Rattle.std.proofs.lemmas.Bool.{cases_lt}
@@ -8,7 +8,7 @@ use Rattle.cells.specs.declared.cell.Cell.{Cell}
 use Rattle.cells.specs.declared.pool.Pool.{Pool}
 use Rattle.cells.specs.Cells.{counted, cell_count, referred, refs_at, linked, Live}
 use Rattle.cells.specs.Reach.{occurs, child, follow, Reached, HowMany, none, one, other}
-use Rattle.cells.specs.References.{links, used, Arena, NoneLost}
+use Rattle.cells.specs.References.{used, Arena, NoneLost}
 use Rattle.cells.proofs.Lists.{some_in, none_past}
 use Rattle.cells.proofs.Staying.{reached_live}
 use Rattle.cells.proofs.Names.{Parent, named_parent}

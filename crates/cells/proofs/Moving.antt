@@ -1,15 +1,14 @@
 -- Moves one after the other. Each touches some of the owned roots; the others stay.
-use Rattle.std.proofs.Common.{◌≡◌, ℕ, ◌+◌, ◌<◌, ◌≤◌, Bool, true, false, List, [], ◌∷◌, ◌++◌, length, sym, refl, ap, ◌∙◌, subst, append_assoc, arith}
-use Rattle.std.specs.List.{slice_get}
+use Rattle.std.proofs.Common.{◌≡◌, ℕ, ◌+◌, ◌≤◌, Bool, List, ◌++◌, sym, ap, arith}
 use Rattle.kinds.specs.Kinds.{Meaning}
 use Rattle.cells.specs.declared.cell.Cell.{Cell}
 use Rattle.cells.specs.declared.pool.Pool.{Pool}
-use Rattle.cells.specs.Cells.{cell_count, tree, facing, seen, Live}
-use Rattle.cells.specs.Reach.{occurs, Among, Stays, AllStay, Takes}
+use Rattle.cells.specs.Cells.{facing, seen}
+use Rattle.cells.specs.Reach.{occurs, Among, Stays}
 use Rattle.cells.specs.References.{Arena}
-use Rattle.cells.specs.Moves.{Moved, Moves}
+use Rattle.cells.specs.Moves.{Moves}
 use Rattle.cells.proofs.Staying.{occurs_append, stays_refl, stays_trans, tree_stays, takes_refl, takes_trans, takes_more}
-use Rattle.cells.proofs.Arenas.{rooted, rerooted}
+use Rattle.cells.proofs.Arenas.{rerooted}
 
 pub seen_stays : {E S : Type 0} (flip : Bool) (a b : List (Cell E S)) (r : ℕ) → Stays a b r → seen flip b r ≡ seen flip a r
 seen_stays flip a b r stays = ap (facing flip) (sym (tree_stays a b r stays))

@@ -1,17 +1,17 @@
 -- A free cell becomes one over two trees.
-use Rattle.std.proofs.Common.{◌≡◌, ℕ, zero, suc, ◌+◌, ◌-◌, ◌*◌, ◌^◌, ◌<◌, ◌≤◌, min, false, ◌⊎◌, List, [], ◌∷◌, length, set, Some, None, sym, refl, ap, ◌∙◌, subst, inl, inr, ⊎_elim, arith, length-set}
+use Rattle.std.proofs.Common.{◌≡◌, ℕ, zero, suc, ◌+◌, ◌-◌, ◌^◌, ◌<◌, ◌≤◌, false, List, [], ◌∷◌, length, set, Some, sym, refl, ap, ◌∙◌, subst, inl, inr, ⊎_elim, arith, length-set}
 use Rattle.std.specs.List.{slice_get, AllByRecursion as All}
 use Rattle.std.proofs.lemmas.Bool.{cases_eq}
 use Rattle.faults.specs.Limits.{limit}
 use Rattle.kinds.specs.Kinds.{Meaning, Laws, IsAtom, Joinable, total}
-use Rattle.balance.specs.Trees.{Tree, node, count}
+use Rattle.balance.specs.Trees.{Tree, node}
 use Rattle.cells.specs.declared.cell.Cell.{Cell}
 use Rattle.cells.specs.declared.item.Item.{Item}
 use Rattle.cells.specs.declared.pool.Pool.{Pool}
-use Rattle.cells.specs.Cells.{cell_count, referred, refs_at, tree, Live, meant, sum_at, Good, Sound}
-use Rattle.cells.specs.Reach.{hit, occurs, Remains, Takes}
-use Rattle.cells.specs.References.{links, Counted, used, Chain, Arena}
-use Rattle.cells.specs.Moves.{Moved, Fits, Yields}
+use Rattle.cells.specs.Cells.{cell_count, referred, refs_at, tree, Live, meant, sum_at, Good}
+use Rattle.cells.specs.Reach.{hit, Remains, Takes}
+use Rattle.cells.specs.References.{Counted, Chain, Arena}
+use Rattle.cells.specs.Moves.{Fits, Yields}
 use Rattle.cells.proofs.Lists.{some_in, nth_set_same, nth_set_other}
 use Rattle.cells.proofs.Trees.{Known, known}
 use Rattle.cells.proofs.Staying.{count_stays, remains_stays}

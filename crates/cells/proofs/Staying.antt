@@ -1,12 +1,10 @@
 -- What a root reaches in one state of the cells, and in another.
-use Rattle.std.proofs.Common.{◌≡◌, ℕ, zero, suc, ◌+◌, ◌<◌, ◌≤◌, Bool, true, false, ◌≢◌, ◌⊎◌, List, [], ◌∷◌, ◌++◌, length, set, Some, None, Option, sym, refl, ap, ◌∙◌, subst, inl, inr, ⊎_elim, arith, length-append}
+use Rattle.std.proofs.Common.{◌≡◌, ℕ, zero, suc, ◌+◌, ◌≤◌, Bool, true, false, List, [], ◌∷◌, ◌++◌, Some, None, Option, sym, refl, ap, ◌∙◌, subst, inl, inr, ⊎_elim, arith, length-append}
 use Rattle.std.specs.List.{slice_get}
-use Rattle.std.proofs.lemmas.Bool.{cases_eq}
 use Rattle.kinds.specs.Kinds.{Meaning}
-use Rattle.balance.specs.Trees.{Tree, leaf, node}
 use Rattle.cells.specs.declared.cell.Cell.{Cell}
-use Rattle.cells.specs.Cells.{counted, cell_count, around, tree_to, tree, linked, Live, Good, Sound}
-use Rattle.cells.specs.Reach.{hit, occurs, Among, child, follow, SameCell, Alike, Stays, Remains, Takes}
+use Rattle.cells.specs.Cells.{counted, cell_count, around, tree_to, tree, linked, Live, Sound}
+use Rattle.cells.specs.Reach.{occurs, child, follow, SameCell, Alike, Stays, Remains, Takes}
 
 -- ---- alike
 

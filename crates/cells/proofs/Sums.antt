@@ -1,14 +1,14 @@
 -- The summary of a tree, joined from those of its parts.
-use Rattle.std.proofs.Common.{◌≡◌, ℕ, ◌+◌, ◌<◌, ◌≤◌, List, [], ◌∷◌, ◌++◌, length, Some, None, Option, sym, refl, ap, ◌∙◌, subst, append_assoc, arith, length-append}
+use Rattle.std.proofs.Common.{◌≡◌, ℕ, ◌+◌, ◌≤◌, List, [], ◌∷◌, ◌++◌, length, Some, None, Option, sym, refl, ap, ◌∙◌, subst, append_assoc, arith, length-append}
 use Rattle.std.specs.List.{slice_get, flat_map, AllByRecursion as All}
 use Rattle.std.proofs.ByRecursion.{All-append}
 use Rattle.faults.specs.Limits.{limit}
 use Rattle.kinds.specs.Kinds.{Meaning, Laws, Lawful, IsAtom, Joinable, total}
 use Rattle.kinds.proofs.Totals.{atoms_atomic, joinable, total_append}
-use Rattle.balance.specs.Trees.{Tree, leaf, node, elements}
+use Rattle.balance.specs.Trees.{Tree, node, elements}
 use Rattle.balance.specs.Ways.{span}
 use Rattle.cells.specs.declared.cell.Cell.{Cell}
-use Rattle.cells.specs.Cells.{shape, tree, linked, Live, meant, summed, sum_at, Good, Sound}
+use Rattle.cells.specs.Cells.{shape, tree, linked, Live, meant, summed, sum_at, Sound}
 use Rattle.cells.proofs.Trees.{none_tree, meant_span}
 
 -- what a live link tells is the summary of its tree

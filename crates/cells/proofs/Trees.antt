@@ -1,5 +1,5 @@
 -- The tree under a cell in use: it opens at the cell, and its count, balance and extent are what the cells tell.
-use Rattle.std.proofs.Common.{◌≡◌, ℕ, zero, suc, ◌+◌, ◌*◌, ◌<◌, ◌≤◌, List, [], ◌∷◌, ◌++◌, length, Some, None, Option, sym, refl, ap, ◌∙◌, subst, arith, length-append}
+use Rattle.std.proofs.Common.{◌≡◌, ℕ, zero, suc, ◌+◌, ◌<◌, ◌≤◌, List, [], ◌∷◌, length, Some, None, Option, sym, refl, ap, ◌∙◌, subst, arith, length-append}
 use Rattle.std.specs.List.{slice_get, flat_map}
 use Rattle.kinds.specs.Kinds.{Meaning, Laws}
 use Rattle.balance.specs.Trees.{Tree, leaf, node, count, elements, Balanced}

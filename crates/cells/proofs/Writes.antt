@@ -1,17 +1,17 @@
 -- One cell is written: a free one is made, the references of one in use change, or one that nothing names is freed.
-use Rattle.std.proofs.Common.{◌≡◌, ℕ, zero, suc, ◌+◌, ◌*◌, ◌<◌, ◌≤◌, Bool, true, false, ◌≢◌, ◌⊎◌, List, [], ◌∷◌, length, set, Some, None, Option, sym, refl, ap, ◌∙◌, subst, inl, inr, ⊎_elim, arith}
+use Rattle.std.proofs.Common.{◌≡◌, ℕ, zero, suc, ◌+◌, ◌<◌, ◌≤◌, Bool, true, false, ◌≢◌, List, [], ◌∷◌, length, set, Some, None, Option, sym, refl, ap, ◌∙◌, subst, ⊎_elim, arith}
 use Rattle.std.specs.List.{slice_get, AllByRecursion as All}
 use Rattle.std.proofs.lemmas.Bool.{cases_eq}
 use Rattle.faults.specs.Limits.{limit}
 use Rattle.kinds.specs.Kinds.{Meaning, Lawful, IsAtom, total}
-use Rattle.balance.specs.Trees.{Tree, leaf, node}
+use Rattle.balance.specs.Trees.{node}
 use Rattle.cells.specs.declared.cell.Cell.{Cell}
 use Rattle.cells.specs.Cells.{counted, cell_count, around, tree_to, tree, linked, Live, meant, Good, Sound}
 use Rattle.cells.specs.Reach.{child, follow, SameCell, Alike, Stays, Remains}
 use Rattle.cells.specs.References.{links, Chain}
 use Rattle.cells.proofs.Lists.{some_in, none_some, nth_set_same, nth_set_other}
 use Rattle.cells.proofs.Trees.{deep_enough}
-use Rattle.cells.proofs.Staying.{same_refl, alike_refl, tree_to_lem, tree_stays, count_stays, child_stays, reached_live, remains_refl, remains_stays}
+use Rattle.cells.proofs.Staying.{same_refl, alike_refl, tree_to_lem, tree_stays, count_stays, child_stays, reached_live, remains_stays}
 use Rattle.cells.proofs.Names.{child_named}
 
 -- a cell whose tree stays, and whose children are still in use, is as good as before

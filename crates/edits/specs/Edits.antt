@@ -1,7 +1,7 @@
 -- What edits do with trees over cells, in the words of lists.
 use Rattle.std.specs.Prelude.{◌≡◌, ℕ, List, [], ◌∷◌}
 use Rattle.kinds.specs.Kinds.{Meaning}
-use Rattle.kinds.specs.Places.{put_at, taken, without}
+use Rattle.kinds.specs.Places.{taken, without}
 use Rattle.balance.specs.Trees.{elements}
 use Rattle.cells.specs.declared.cell.Cell.{Cell}
 use Rattle.cells.specs.declared.pool.Pool.{Pool}

@@ -1,9 +1,9 @@
 -- From the start, where nothing is owned, to the end.
-use Rattle.std.proofs.Common.{◌≡◌, ℕ, zero, suc, ◌+◌, ◌*◌, ◌^◌, ◌<◌, ◌≤◌, false, List, [], ◌∷◌, length, sym, refl, ap, ◌∙◌, subst, arith}
+use Rattle.std.proofs.Common.{◌≡◌, ℕ, ◌*◌, ◌^◌, ◌≤◌, false, List, [], ◌∷◌, length, sym, refl, ap, ◌∙◌, subst, arith}
 use Rattle.std.proofs.lemmas.Option.{slice_get_past}
 use Rattle.faults.specs.Limits.{limit}
-use Rattle.kinds.specs.Kinds.{Meaning, Lawful, total}
-use Rattle.balance.specs.Trees.{Tree, leaf, node, count, Balanced}
+use Rattle.kinds.specs.Kinds.{Meaning}
+use Rattle.balance.specs.Trees.{leaf, node, count, Balanced}
 use Rattle.balance.specs.Links.{link}
 use Rattle.balance.specs.Costs.{link_cost}
 use Rattle.balance.specs.Levels.{most}
@@ -12,7 +12,7 @@ use Rattle.balance.proofs.Costs.{link_cost_lem}
 use Rattle.cells.specs.declared.cell.Cell.{Cell}
 use Rattle.cells.specs.declared.item.Item.{Item}
 use Rattle.cells.specs.declared.pool.Pool.{Pool}
-use Rattle.cells.specs.Cells.{cell_count, tree, Live}
+use Rattle.cells.specs.Cells.{cell_count, tree}
 use Rattle.cells.specs.Reach.{Reached, HowMany, none, one, other}
 use Rattle.cells.specs.References.{Arena, Holds, NoneLost}
 use Rattle.cells.specs.Moves.{Fits, Yields, Releases}

@@ -8,7 +8,7 @@ use Rattle.cells.specs.declared.pool.Pool.{Pool}
 use Rattle.cells.specs.Cells.{seen}
 use Rattle.cells.specs.Reach.{child, follow, Stays, Reached}
 use Rattle.cells.specs.References.{Arena, Holds}
-use Rattle.cells.specs.Moves.{Moved, Moves, Yields}
+use Rattle.cells.specs.Moves.{Moves, Yields}
 use Rattle.cells.proofs.Staying.{stays_refl, stays_trans, follow_same}
 use Rattle.cells.proofs.Names.{hit_same}
 use Rattle.cells.proofs.Moving.{moves_none, moves_then, seen_stays}

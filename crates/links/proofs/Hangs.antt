@@ -1,5 +1,5 @@
 -- Hanging: down, a cell at the foot, and up.
-use Rattle.std.proofs.Common.{◌≡◌, ℕ, ◌+◌, ◌*◌, ◌^◌, ◌<◌, ◌≤◌, Bool, List, [], ◌∷◌, ◌++◌, length, sym, refl, ap, ◌∙◌, subst, arith}
+use Rattle.std.proofs.Common.{◌≡◌, ℕ, ◌+◌, ◌*◌, ◌^◌, ◌<◌, ◌≤◌, Bool, List, [], ◌∷◌, length, sym, ap, ◌∙◌, subst, arith}
 use Rattle.kinds.specs.Kinds.{Meaning}
 use Rattle.balance.specs.Trees.{Tree, node, count, weight, Balanced, Δ}
 use Rattle.balance.specs.Links.{hung, spine}
@@ -10,8 +10,8 @@ use Rattle.balance.proofs.Costs.{link_cost_lem}
 use Rattle.cells.specs.declared.cell.Cell.{Cell}
 use Rattle.cells.specs.declared.item.Item.{Item}
 use Rattle.cells.specs.declared.pool.Pool.{Pool}
-use Rattle.cells.specs.Cells.{cell_count, seen, Live, Sound}
-use Rattle.cells.specs.Reach.{occurs, Among, Stays}
+use Rattle.cells.specs.Cells.{cell_count, seen, Live}
+use Rattle.cells.specs.Reach.{Among, Stays}
 use Rattle.cells.specs.References.{Arena, Holds}
 use Rattle.cells.specs.Moves.{Moved, Moves, Retains, Fits, Yields, Releases}
 use Rattle.cells.proofs.Staying.{stays_trans}

@@ -1,27 +1,25 @@
 -- The levels that a light tree L passes on the near side of a heavy one, and what is made of them on the way up.
-use Rattle.std.proofs.Common.{◌≡◌, ℕ, zero, suc, ◌+◌, ◌*◌, ◌^◌, ◌<◌, ◌≤◌, Bool, true, false, ltb, List, [], ◌∷◌, length, get_or, Some, None, Option, sym, refl, ap, ◌∙◌, subst, arith, le-ltb, lt-ltb}
+use Rattle.std.proofs.Common.{◌≡◌, ℕ, zero, suc, ◌*◌, ◌<◌, ◌≤◌, Bool, true, false, ltb, List, [], length, get_or, Some, None, Option, sym, refl, ap, ◌∙◌, subst, arith, le-ltb, lt-ltb}
 use Rattle.std.specs.List.{slice_get}
-use Rattle.faults.specs.Limits.{limit}
 use Rattle.kinds.specs.Kinds.{Meaning}
 use Rattle.balance.specs.Trees.{Tree, leaf, node, count, weight, elements, Balanced, Δ}
 use Rattle.balance.specs.Lists.{extents}
 use Rattle.balance.specs.Links.{hung, rebalanced, spine}
 use Rattle.balance.specs.Ways.{span}
-use Rattle.balance.specs.Levels.{most}
 use Rattle.balance.proofs.Tests.{test_true, test_false}
 use Rattle.balance.proofs.Mirrors.{same_count}
 use Rattle.balance.proofs.Ways.{span_extents}
 use Rattle.balance.proofs.Links.{hung_elements, hung_balanced}
 use Rattle.cells.specs.declared.cell.Cell.{Cell}
 use Rattle.cells.specs.Cells.{shape, seen, near, far, linked, Live, Sound}
-use Rattle.cells.specs.Reach.{child, follow, Alike, Stays}
+use Rattle.cells.specs.Reach.{child, Alike, Stays}
 use Rattle.cells.proofs.Lists.{some_in, none_past}
 use Rattle.cells.proofs.Staying.{reached_live}
 use Rattle.cells.proofs.Moving.{seen_stays}
 use Rattle.links.specs.declared.foot.Foot.{Foot}
 use Rattle.links.specs.Sitting.{Sits, Linkable}
-use Rattle.links.specs.Climbing.{raised, descent, climbed, Tabled, Climbs, Sunk}
-use Rattle.links.proofs.Sides.{seen_known, seen_balanced, seen_opened}
+use Rattle.links.specs.Climbing.{raised, descent, climbed, Climbs, Sunk}
+use Rattle.links.proofs.Sides.{seen_balanced, seen_opened}
 use Rattle.links.proofs.Climbs.{descent_path, descent_stays, climbed_more, climbed_none}
 use Rattle.links.proofs.Sinks.{near_child, descent_none, descent_more}
 

@@ -1,22 +1,19 @@
 -- A cell taken apart: its children are owned one after the other.
-use Rattle.std.proofs.Common.{◌≡◌, ℕ, ◌+◌, ◌^◌, ◌<◌, ◌≤◌, Bool, true, false, List, [], ◌∷◌, ◌++◌, length, Some, None, Option, sym, refl, ap, ◌∙◌, subst, arith}
+use Rattle.std.proofs.Common.{◌≡◌, ℕ, ◌^◌, ◌<◌, Bool, true, false, List, [], ◌∷◌, Some, sym, ap, ◌∙◌, subst, arith}
 use Rattle.std.specs.List.{slice_get}
 use Rattle.kinds.specs.Kinds.{Meaning}
-use Rattle.balance.specs.Trees.{Tree, node}
 use Rattle.cells.specs.declared.cell.Cell.{Cell}
-use Rattle.cells.specs.declared.item.Item.{Item}
 use Rattle.cells.specs.declared.pool.Pool.{Pool}
-use Rattle.cells.specs.Cells.{seen, near, far, linked, Live, Good}
-use Rattle.cells.specs.Reach.{Among, child, follow, Stays}
+use Rattle.cells.specs.Cells.{near, far, Live, Good}
+use Rattle.cells.specs.Reach.{Among, child, Stays}
 use Rattle.cells.specs.References.{Arena, Holds}
-use Rattle.cells.specs.Moves.{Moved, Moves, Retains}
-use Rattle.cells.proofs.Staying.{stays_trans, follow_same, reached_live}
+use Rattle.cells.specs.Moves.{Retains}
+use Rattle.cells.proofs.Staying.{follow_same, reached_live}
 use Rattle.cells.proofs.Names.{hit_same}
 use Rattle.cells.proofs.Arenas.{rooted, owned_refs}
 use Rattle.cells.proofs.Moving.{moves_then, seen_stays}
-use Rattle.links.specs.declared.parts.Parts.{Parts}
 use Rattle.links.specs.Opened.{Whole, Opens}
-use Rattle.links.proofs.Sides.{seen_opened, near_live, far_live, near_stays, far_stays}
+use Rattle.links.proofs.Sides.{seen_opened, near_live, far_live, far_stays}
 
 -- a child of a cell that stays is live there too
 child_there : {E A S : Type 0} (k : Meaning E A S) (a b : List (Cell E S)) (i : ℕ) (c : Cell E S) → slice_get a i ≡ Some c → Stays a b i

@@ -1,25 +1,18 @@
 -- Cells made one after the other over trees that sit.
-use Rattle.std.proofs.Common.{◌≡◌, ℕ, ◌+◌, ◌*◌, ◌^◌, ◌<◌, ◌≤◌, Bool, List, [], ◌∷◌, ◌++◌, length, Some, None, Option, sym, refl, ap, ◌∙◌, subst, arith}
-use Rattle.std.specs.List.{slice_get}
+use Rattle.std.proofs.Common.{◌≡◌, ℕ, ◌+◌, Bool, List, [], ◌∷◌, sym, ap, ◌∙◌, subst, arith}
 use Rattle.kinds.specs.Kinds.{Meaning}
-use Rattle.balance.specs.Trees.{Tree, node, count, weight, Balanced}
-use Rattle.balance.specs.Links.{rotated_twice}
-use Rattle.balance.specs.Levels.{most}
+use Rattle.balance.specs.Trees.{Tree, node}
 use Rattle.cells.specs.declared.cell.Cell.{Cell}
 use Rattle.cells.specs.declared.item.Item.{Item}
 use Rattle.cells.specs.declared.pool.Pool.{Pool}
-use Rattle.cells.specs.Cells.{counted, cell_count, seen, Live, Sound}
-use Rattle.cells.specs.Reach.{occurs, Among}
-use Rattle.cells.specs.References.{Arena, Holds}
-use Rattle.cells.specs.Moves.{Moved, Moves, Fits, Yields, Releases}
-use Rattle.cells.proofs.Lists.{some_in}
+use Rattle.cells.specs.Cells.{seen}
+use Rattle.cells.specs.References.{Arena}
+use Rattle.cells.specs.Moves.{Moves, Fits, Yields}
 use Rattle.cells.proofs.Names.{hit_same}
-use Rattle.cells.proofs.Arenas.{rooted, rerooted}
+use Rattle.cells.proofs.Arenas.{rerooted}
 use Rattle.cells.proofs.Moving.{moves_none, moves_then, seen_stays}
-use Rattle.links.specs.declared.parts.Parts.{Parts}
-use Rattle.links.specs.Opened.{Whole, Opens}
+use Rattle.links.specs.Opened.{Whole}
 use Rattle.links.specs.Sitting.{Sits}
-use Rattle.links.proofs.Sides.{seen_known}
 
 module _ {E A S : Type 0} (k : Meaning E A S) where
   pub sits_left : (l : Tree E) (e : E) (r : Tree E) → Sits k (node l e r) → Sits k l

@@ -1,19 +1,19 @@
 -- The two sides of cells and trees.
-use Rattle.std.proofs.Common.{◌≡◌, ℕ, ◌+◌, ◌*◌, ◌^◌, ◌<◌, ◌≤◌, Bool, true, false, List, [], ◌∷◌, Some, sym, refl, ap, ◌∙◌, subst, arith}
+use Rattle.std.proofs.Common.{◌≡◌, ℕ, ◌<◌, Bool, true, false, List, ◌∷◌, Some, sym, refl, ap, ◌∙◌, subst, arith}
 use Rattle.std.specs.List.{slice_get}
 use Rattle.kinds.specs.Kinds.{Meaning}
 use Rattle.balance.specs.Trees.{Tree, node, count, mirror, Balanced}
 use Rattle.balance.specs.Lists.{Shape}
 use Rattle.balance.specs.Ways.{span}
-use Rattle.balance.proofs.Mirrors.{mirror_mirror, mirror_count, mirror_balanced, mirror_span}
+use Rattle.balance.proofs.Mirrors.{mirror_count, mirror_balanced, mirror_span}
 use Rattle.cells.specs.declared.cell.Cell.{Cell}
 use Rattle.cells.specs.declared.item.Item.{Item}
 use Rattle.cells.specs.declared.pool.Pool.{Pool}
 use Rattle.cells.specs.Cells.{shape, cell_count, tree, facing, seen, near, far, Live, Good, Sound}
-use Rattle.cells.specs.Reach.{child, Stays}
+use Rattle.cells.specs.Reach.{Stays}
 use Rattle.cells.specs.References.{Arena}
-use Rattle.cells.specs.Moves.{Moved, Fits, Yields}
-use Rattle.cells.proofs.Trees.{Known, known, opened}
+use Rattle.cells.specs.Moves.{Fits, Yields}
+use Rattle.cells.proofs.Trees.{known, opened}
 use Rattle.cells.proofs.Staying.{child_stays}
 use Rattle.cells.proofs.Arenas.{rerooted}
 

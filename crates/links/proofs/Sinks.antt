@@ -1,5 +1,5 @@
 -- The loop down the near side of a tree.
-use Rattle.std.proofs.Common.{◌≡◌, ℕ, zero, suc, ◌+◌, ◌*◌, ◌^◌, ◌<◌, ◌≤◌, Bool, true, false, ltb, ◌≢◌, ◌⊎◌, List, [], ◌∷◌, length, get_or, set, Some, sym, refl, ap, ◌∙◌, subst, inl, inr, ⊎_elim, add-one, arith, length-set}
+use Rattle.std.proofs.Common.{◌≡◌, ℕ, suc, ◌+◌, ◌*◌, ◌<◌, ◌≤◌, Bool, true, false, ltb, List, length, get_or, set, Some, sym, refl, ap, ◌∙◌, subst, ⊎_elim, add-one, arith, length-set}
 use Rattle.std.specs.List.{slice_get}
 use Rattle.std.proofs.lemmas.List.{get_or-set_same, get_or-set_other}
 use Rattle.std.proofs.lemmas.Bool.{cases_eq}
@@ -12,8 +12,7 @@ use Rattle.balance.proofs.Loops.{spine_down, spine_end}
 use Rattle.cells.specs.declared.cell.Cell.{Cell}
 use Rattle.cells.specs.Cells.{cell_count, seen, near, far, linked, Live, Sound}
 use Rattle.cells.specs.Reach.{child}
-use Rattle.links.specs.declared.foot.Foot.{Foot}
-use Rattle.links.specs.Climbing.{descent, Tabled, Sunk}
+use Rattle.links.specs.Climbing.{descent, Sunk}
 use Rattle.links.proofs.Sides.{seen_known, seen_opened, near_live}
 use Rattle.links.proofs.Twice.{seen_inside}
 

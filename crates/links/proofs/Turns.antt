@@ -1,9 +1,8 @@
 -- Which rotation, and none where the trees are even.
-use Rattle.std.proofs.Common.{◌≡◌, ℕ, ◌+◌, ◌*◌, ◌^◌, ◌<◌, ◌≤◌, Bool, true, false, ltb, List, [], ◌∷◌, ◌++◌, length, sym, refl, ap, ◌∙◌, subst, arith}
+use Rattle.std.proofs.Common.{◌≡◌, ℕ, ◌+◌, ◌*◌, ◌^◌, ◌<◌, ◌≤◌, Bool, true, false, ltb, List, [], ◌∷◌, length, sym, ap, ◌∙◌, subst, arith}
 use Rattle.kinds.specs.Kinds.{Meaning}
-use Rattle.balance.specs.Trees.{Tree, leaf, node, count, weight, elements, Δ, Γ}
+use Rattle.balance.specs.Trees.{Tree, leaf, node, count, weight, Δ, Γ}
 use Rattle.balance.specs.Links.{rotated, rotated_twice, rebalanced}
-use Rattle.balance.specs.Ways.{span}
 use Rattle.balance.specs.Levels.{most}
 use Rattle.balance.proofs.Tests.{tests, by_test, test_true, test_false}
 use Rattle.balance.proofs.Mirrors.{same_count}
@@ -11,10 +10,10 @@ use Rattle.balance.proofs.Links.{rebalanced_elements}
 use Rattle.cells.specs.declared.cell.Cell.{Cell}
 use Rattle.cells.specs.declared.item.Item.{Item}
 use Rattle.cells.specs.declared.pool.Pool.{Pool}
-use Rattle.cells.specs.Cells.{cell_count, seen, Live}
-use Rattle.cells.specs.Reach.{occurs, Among}
+use Rattle.cells.specs.Cells.{cell_count, seen}
+use Rattle.cells.specs.Reach.{Among}
 use Rattle.cells.specs.References.{Arena, Holds}
-use Rattle.cells.specs.Moves.{Moved, Moves, Fits, Yields, Releases}
+use Rattle.cells.specs.Moves.{Moves, Fits, Yields, Releases}
 use Rattle.cells.proofs.Names.{hit_same}
 use Rattle.cells.proofs.Arenas.{rooted, rerooted}
 use Rattle.cells.proofs.Moving.{moves_none, moves_more, moves_then, seen_stays}

@@ -1,17 +1,17 @@
 -- A rotation by which a grandchild comes to stand on top.
-use Rattle.std.proofs.Common.{◌≡◌, ℕ, ◌+◌, ◌*◌, ◌^◌, ◌<◌, ◌≤◌, Bool, List, [], ◌∷◌, ◌++◌, length, Some, None, Option, sym, refl, ap, ◌∙◌, subst, arith}
+use Rattle.std.proofs.Common.{◌≡◌, ℕ, ◌+◌, ◌^◌, ◌<◌, ◌≤◌, Bool, List, [], ◌∷◌, length, Some, None, Option, sym, refl, ap, ◌∙◌, subst, arith}
 use Rattle.std.specs.List.{slice_get}
 use Rattle.kinds.specs.Kinds.{Meaning}
-use Rattle.balance.specs.Trees.{Tree, node, count, weight, Balanced}
+use Rattle.balance.specs.Trees.{Tree, node, count, weight}
 use Rattle.balance.specs.Links.{rotated_twice}
 use Rattle.balance.specs.Levels.{most}
 use Rattle.cells.specs.declared.cell.Cell.{Cell}
 use Rattle.cells.specs.declared.item.Item.{Item}
 use Rattle.cells.specs.declared.pool.Pool.{Pool}
 use Rattle.cells.specs.Cells.{counted, cell_count, seen, Live, Sound}
-use Rattle.cells.specs.Reach.{occurs, Among}
+use Rattle.cells.specs.Reach.{Among}
 use Rattle.cells.specs.References.{Arena, Holds}
-use Rattle.cells.specs.Moves.{Moved, Moves, Fits, Yields, Releases}
+use Rattle.cells.specs.Moves.{Moves, Fits, Yields, Releases}
 use Rattle.cells.proofs.Lists.{some_in}
 use Rattle.cells.proofs.Names.{hit_same}
 use Rattle.cells.proofs.Arenas.{rooted, rerooted}

@@ -1,19 +1,18 @@
 -- Linking, from whichever side.
-use Rattle.std.proofs.Common.{◌≡◌, ℕ, ◌+◌, ◌*◌, ◌^◌, ◌<◌, ◌≤◌, Bool, true, false, ltb, List, [], ◌∷◌, ◌++◌, length, sym, refl, ap, ◌∙◌, subst, arith}
+use Rattle.std.proofs.Common.{◌≡◌, ℕ, ◌+◌, ◌*◌, ◌^◌, ◌<◌, ◌≤◌, Bool, true, false, ltb, List, [], ◌∷◌, ◌++◌, length, sym, ap, ◌∙◌, subst, arith}
 use Rattle.kinds.specs.Kinds.{Meaning}
 use Rattle.balance.specs.Trees.{Tree, node, count, weight, elements, mirror, Δ}
 use Rattle.balance.specs.Links.{hung, spine, link}
 use Rattle.balance.specs.Costs.{passes, link_cost}
-use Rattle.balance.specs.Levels.{most}
 use Rattle.balance.proofs.Tests.{tests}
 use Rattle.balance.proofs.Mirrors.{mirror_mirror, mirror_count, mirror_span}
 use Rattle.balance.proofs.Links.{weighed_right, weighed_left, weighed_even, link_elements}
 use Rattle.cells.specs.declared.cell.Cell.{Cell}
 use Rattle.cells.specs.declared.item.Item.{Item}
 use Rattle.cells.specs.declared.pool.Pool.{Pool}
-use Rattle.cells.specs.Cells.{shape, cell_count, tree, seen}
+use Rattle.cells.specs.Cells.{shape, cell_count, tree}
 use Rattle.cells.specs.References.{Arena, Holds}
-use Rattle.cells.specs.Moves.{Moved, Fits, Yields}
+use Rattle.cells.specs.Moves.{Fits, Yields}
 use Rattle.cells.proofs.Names.{hit_same}
 use Rattle.cells.proofs.Arenas.{rerooted}
 use Rattle.links.specs.Opened.{Whole}

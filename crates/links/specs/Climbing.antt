@@ -1,5 +1,5 @@
 -- Down the side of a tree and up again.
-use Rattle.std.specs.Prelude.{◌≡◌, ℕ, zero, suc, ◌+◌, ◌*◌, ◌<◌, ◌≤◌, Bool, List, [], ◌∷◌, length, slice_index}
+use Rattle.std.specs.Prelude.{◌≡◌, ℕ, zero, suc, ◌*◌, ◌<◌, ◌≤◌, Bool, List, [], ◌∷◌, length, slice_index}
 use Rattle.std.specs.List.{slice_get}
 use Rattle.kinds.specs.Kinds.{Meaning}
 use Rattle.balance.specs.Trees.{Tree, leaf, node, weight, Δ}
@@ -7,7 +7,7 @@ use Rattle.balance.specs.Links.{rebalanced, spine}
 use Rattle.balance.specs.Levels.{deepest}
 use Rattle.cells.specs.declared.cell.Cell.{Cell}
 use Rattle.cells.specs.declared.pool.Pool.{Pool}
-use Rattle.cells.specs.Cells.{seen, Live}
+use Rattle.cells.specs.Cells.{seen}
 use Rattle.cells.specs.Reach.{child, Reached, Stays}
 use Rattle.cells.specs.References.{Arena}
 use Rattle.cells.specs.Moves.{Moves}

@@ -1,6 +1,5 @@
 -- Where the same roots are owned and what they reach has stayed, as many cells are free.
-use Rattle.std.proofs.Common.{◌≡◌, ℕ, zero, suc, ◌+◌, ◌<◌, ◌≤◌, min, List, [], ◌∷◌, ◌++◌, length, sym, refl, ap, ◌∙◌, subst, ⊎_elim, arith}
-use Rattle.std.specs.List.{slice_get}
+use Rattle.std.proofs.Common.{◌≡◌, ℕ, suc, ◌<◌, min, List, [], ◌∷◌, length, refl, ⊎_elim, arith}
 use Rattle.std.proofs.lemmas.Bool.{cases_lt}
 use Rattle.kinds.specs.Kinds.{Meaning}
 use Rattle.cells.specs.declared.cell.Cell.{Cell}
@@ -8,11 +7,11 @@ use Rattle.cells.specs.declared.pool.Pool.{Pool}
 use Rattle.cells.specs.Cells.{refs_at}
 use Rattle.cells.specs.Reach.{AllStay}
 use Rattle.cells.specs.References.{used, Arena}
-use Rattle.cells.specs.Moves.{Moved, Moves}
+use Rattle.cells.specs.Moves.{Moves}
 use Rattle.cells.proofs.Staying.{stays_sym}
 use Rattle.cells.proofs.Lost.{none_lost}
 use Rattle.splits.proofs.Tables.{reached_stays}
-use Rattle.paces.specs.Rests.{Kept, Rests}
+use Rattle.paces.specs.Rests.{Rests}
 
 used_same : {E S : Type 0} (a b : List (Cell E S)) → length b ≡ length a → ((i : ℕ) → i < length a → min (refs_at b i) 1 ≡ min (refs_at a i) 1) → used b ≡ used a
 used_same [] [] long same = refl

@@ -1,9 +1,9 @@
 -- What a round makes is given back.
-use Rattle.std.proofs.Common.{◌≡◌, ℕ, ◌+◌, ◌*◌, ◌^◌, ◌<◌, ◌≤◌, List, [], ◌∷◌, ◌++◌, length, sym, refl, ap, ◌∙◌, subst, ⊎_elim, arith}
+use Rattle.std.proofs.Common.{◌≡◌, ℕ, ◌+◌, ◌*◌, ◌^◌, ◌≤◌, List, [], ◌∷◌, length, refl, ap, ◌∙◌, ⊎_elim, arith}
 use Rattle.std.proofs.lemmas.Bool.{cases_lt}
 use Rattle.faults.specs.Limits.{limit}
 use Rattle.kinds.specs.Kinds.{Meaning}
-use Rattle.kinds.specs.Places.{extent_of, put_at, taken, without}
+use Rattle.kinds.specs.Places.{extent_of, put_at, taken}
 use Rattle.kinds.proofs.Places.{taken_fewer}
 use Rattle.flat.specs.Refusals.{element_limit}
 use Rattle.balance.specs.Ways.{span}
@@ -11,12 +11,12 @@ use Rattle.balance.specs.Levels.{most}
 use Rattle.cells.specs.declared.cell.Cell.{Cell}
 use Rattle.cells.specs.declared.pool.Pool.{Pool}
 use Rattle.cells.specs.Cells.{shape, cell_count, tree, Live}
-use Rattle.cells.specs.Reach.{hit, occurs, Among, Stays, AllStay}
+use Rattle.cells.specs.Reach.{hit, Among, AllStay}
 use Rattle.cells.specs.References.{Arena}
 use Rattle.cells.specs.Moves.{Moved, Moves, Releases}
 use Rattle.cells.proofs.Names.{hit_same}
 use Rattle.cells.proofs.Staying.{stays_refl, stays_trans}
-use Rattle.cells.proofs.Arenas.{rooted, rerooted}
+use Rattle.cells.proofs.Arenas.{rooted}
 use Rattle.cells.proofs.Moving.{moves_then}
 use Rattle.splits.specs.Owning.{Owns}
 use Rattle.edits.specs.declared.removal.Removal.{Removal}
@@ -24,7 +24,7 @@ use Rattle.edits.specs.Edits.{edit_takes, copy_takes, list, Makes, Cuts}
 use Rattle.edits.proofs.Roots.{owned_counts, owned_short}
 use Rattle.tracks.proofs.Counts.{put_count, without_count}
 use Rattle.tracks.proofs.Owned.{list_stays, span_extent}
-use Rattle.paces.specs.Rests.{Kept, Rests}
+use Rattle.paces.specs.Rests.{Rests}
 use Rattle.paces.proofs.Frees.{same_free, rests_moved}
 
 module _ {E A S : Type 0} (k : Meaning E A S) (a : List (Cell E S)) (p : Pool) (xs : List ℕ) (n : ℕ) (owns : Owns k a p [] xs n) where

@@ -1,16 +1,14 @@
 -- A whole run: everything that it took is free again.
-use Rattle.std.proofs.Common.{◌≡◌, ℕ, ◌+◌, ◌^◌, ◌<◌, ◌≤◌, List, [], ◌∷◌, ◌++◌, length, ap, arith}
+use Rattle.std.proofs.Common.{◌≡◌, ℕ, ◌^◌, ◌≤◌, List, [], ◌∷◌, length, ap, arith}
 use Rattle.kinds.specs.Kinds.{Meaning}
-use Rattle.flat.specs.Refusals.{element_limit}
 use Rattle.balance.specs.Levels.{most}
 use Rattle.cells.specs.declared.cell.Cell.{Cell}
 use Rattle.cells.specs.declared.pool.Pool.{Pool}
 use Rattle.cells.specs.Cells.{cell_count}
 use Rattle.cells.specs.References.{Arena}
-use Rattle.cells.specs.Moves.{Moved, Releases}
+use Rattle.cells.specs.Moves.{Releases}
 use Rattle.cells.proofs.Names.{hit_same}
 use Rattle.splits.specs.Owning.{Owns}
-use Rattle.edits.specs.Edits.{list}
 use Rattle.edits.proofs.Roots.{owned_counts}
 use Rattle.tracks.specs.declared.piece.Piece.{Piece}
 use Rattle.tracks.specs.declared.piece.Laid.{Laid}

@@ -1,5 +1,5 @@
 -- The columns' edges rise from 0 to the extent, and the columns joined are the whole.
-use Rattle.std.proofs.Common.{◌≡◌, ℕ, zero, suc, ◌+◌, ◌-◌, ◌*◌, ◌/◌, ◌^◌, ◌<◌, ◌≤◌, List, ◌++◌, length, take, drop, Ok, Err, Result, sym, refl, ap, ◌∙◌, le_trans, mul-le-mul_right, mul_comm, le-div_iff_mul-le, div-mul-le_self, arith, length-drop, length-take}
+use Rattle.std.proofs.Common.{◌≡◌, ℕ, ◌+◌, ◌-◌, ◌*◌, ◌^◌, ◌<◌, ◌≤◌, List, length, take, drop, Ok, Err, Result, sym, ap, ◌∙◌, le_trans, mul-le-mul_right, le-div_iff_mul-le, div-mul-le_self, arith, length-drop, length-take}
 use native.Mathlib.Nat.{div-le_of_le-mul, mul-div_cancel_left}
 use Rattle.std.specs.List.{AllByRecursion as All}
 use Rattle.std.proofs.ByRecursion.{All-take, All-drop}

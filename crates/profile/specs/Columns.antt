@@ -6,7 +6,7 @@ use Rattle.faults.specs.declared.session.SessionFault.{SessionFault}
 use Rattle.faults.specs.declared.session.SessionFault.TheVariants.{Unlawful}
 use Rattle.kinds.specs.Kinds.{Meaning, total}
 use Rattle.profile.specs.declared.fault.SurveyFault.{SurveyFault}
-use Rattle.profile.specs.declared.fault.SurveyFault.TheVariants.{Reel, Session, NoMemory}
+use Rattle.profile.specs.declared.fault.SurveyFault.TheVariants.{Session, NoMemory}
 
 -- a kind's refusal, carried whole inside the session's
 abbrev pub carried : {E : Type 0} → Result E Cause → Result E SessionFault

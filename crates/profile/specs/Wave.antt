@@ -1,6 +1,6 @@
 -- A waveform in text: a row is a band of sample values, and a column is marked in it where its levels
 -- reach the band.
-use Rattle.std.specs.Prelude.{ℕ, Bool, true, false, cond, ◌&&◌, ℤ, int_le, nat_lt}
+use Rattle.std.specs.Prelude.{ℕ, Bool, cond, ◌&&◌, ℤ, int_le, nat_lt}
 use Rattle.audio.specs.declared.levels.Levels.{Levels}
 
 -- some sample's level lies between the two ends of the band, or the levels lie on both sides of it

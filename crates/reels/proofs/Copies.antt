@@ -1,5 +1,5 @@
 -- What is common to all bulk copies of a stretch of samples.
-use Rattle.std.proofs.Common.{◌≡◌, ℕ, zero, suc, ◌+◌, ◌-◌, ◌<◌, ◌≤◌, min, List, [], ◌∷◌, ◌++◌, length, take, drop, ℤ, pos, Some, None, sym, refl, ap, ◌∙◌, arith, length-drop, length-take}
+use Rattle.std.proofs.Common.{◌≡◌, ℕ, zero, suc, ◌+◌, ◌-◌, ◌<◌, ◌≤◌, min, List, [], ◌∷◌, ◌++◌, length, take, drop, ℤ, pos, None, sym, refl, ap, ◌∙◌, arith, length-drop, length-take}
 use Rattle.std.specs.List.{slice_get}
 use Rattle.std.proofs.lemmas.List.{drop-drop, drop-append-le, drop_all, append-nil, append_assoc, take_at, drop_at, take_rest}
 use Rattle.std.proofs.lemmas.Option.{slice_get-get_or}

@@ -1,6 +1,6 @@
 -- The table of the code, and the rule at each of its entries, by one test that antt computes.
-use Rattle.std.proofs.Common.{◌≡◌, ℕ, ◌+◌, ◌-◌, ◌*◌, ◌^◌, ◌<◌, ◌≤◌, Bool, List, [], ◌∷◌, get_or, ℤ, pos, negsuc, sym, refl, ap, ◌∙◌, mul_assoc, add-mul, mul_left_comm, arith, pow_pos, w16, to_z, of_z}
-use Rattle.reels.specs.MuLaw.{decoded, inverted, sign, signed, segment, place, apart, begin, value, size}
+use Rattle.std.proofs.Common.{◌≡◌, ℕ, ◌+◌, ◌-◌, ◌*◌, ◌^◌, ◌<◌, ◌≤◌, Bool, List, [], ◌∷◌, get_or, ℤ, pos, negsuc, ap, mul_assoc, add-mul, mul_left_comm, arith, pow_pos, w16, to_z, of_z}
+use Rattle.reels.specs.MuLaw.{decoded, inverted, sign, signed, segment, place, size}
 use Rattle.reels.proofs.Table.{at, same, same→eq}
 
 abbrev pub entries : List ℤ

@@ -1,5 +1,5 @@
 -- The element that is a whole reel.
-use Rattle.std.proofs.Common.{◌≡◌, ℕ, suc, ◌+◌, ◌^◌, ◌<◌, ◌≤◌, Bool, true, false, cond, eqb, ltb, List, [], ◌∷◌, length, take, drop, ℤ, Ok, Err, sym, refl, ap, ◌∙◌, arith, ltb-true, eqb-true}
+use Rattle.std.proofs.Common.{◌≡◌, ℕ, suc, ◌+◌, ◌^◌, ◌<◌, ◌≤◌, Bool, true, false, cond, eqb, ltb, List, [], ◌∷◌, length, take, drop, ℤ, Ok, Err, refl, ap, ◌∙◌, arith, ltb-true, eqb-true}
 use Rattle.std.proofs.lemmas.List.{take_all}
 use Rattle.faults.specs.declared.causes.Cause.{Cause}
 use Rattle.faults.specs.declared.causes.Cause.TheVariants.{NoExtent, PastReel}

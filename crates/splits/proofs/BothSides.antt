@@ -1,7 +1,7 @@
 -- The two sides of a place.
-use Rattle.std.proofs.Common.{◌≡◌, ℕ, ◌+◌, ◌-◌, ◌^◌, ◌<◌, ◌≤◌, Bool, true, false, List, [], ◌∷◌, ◌++◌, length, take, sym, refl, ap, ◌∙◌, subst, arith}
+use Rattle.std.proofs.Common.{◌≡◌, ℕ, ◌+◌, ◌-◌, ◌^◌, ◌≤◌, Bool, true, false, List, [], ◌∷◌, ◌++◌, take, sym, ap, ◌∙◌, subst, arith}
 use Rattle.faults.specs.Limits.{limit}
-use Rattle.kinds.specs.Kinds.{Meaning, Lawful}
+use Rattle.kinds.specs.Kinds.{Meaning}
 use Rattle.balance.specs.Trees.{Tree, count, mirror}
 use Rattle.balance.specs.Links.{link, rebuilt}
 use Rattle.balance.specs.Ways.{span}
@@ -11,8 +11,8 @@ use Rattle.balance.specs.Costs.{rebuilt_cost, up_to_cost}
 use Rattle.balance.proofs.Mirrors.{mirror_count, mirror_span}
 use Rattle.cells.specs.declared.cell.Cell.{Cell}
 use Rattle.cells.specs.declared.pool.Pool.{Pool}
-use Rattle.cells.specs.Cells.{shape, tree, seen, Live}
-use Rattle.cells.specs.Reach.{occurs, Among, AllStay, Reached}
+use Rattle.cells.specs.Cells.{shape, tree, seen}
+use Rattle.cells.specs.Reach.{Among, AllStay, Reached}
 use Rattle.cells.specs.References.{Arena}
 use Rattle.cells.specs.Moves.{Moved, Moves, Retains}
 use Rattle.cells.proofs.Staying.{stays_trans}

@@ -1,7 +1,7 @@
 -- A link seen from either side.
-use Rattle.std.proofs.Common.{◌≡◌, ℕ, ◌^◌, ◌≤◌, Bool, true, false, List, [], ◌∷◌, sym, refl, ap, ◌∙◌, subst, arith}
+use Rattle.std.proofs.Common.{◌≡◌, ℕ, ◌^◌, Bool, true, false, List, [], ◌∷◌, sym, ap, ◌∙◌, subst, arith}
 use Rattle.kinds.specs.Kinds.{Meaning}
-use Rattle.balance.specs.Trees.{Tree, mirror}
+use Rattle.balance.specs.Trees.{mirror}
 use Rattle.balance.specs.Links.{link}
 use Rattle.balance.specs.Costs.{link_cost}
 use Rattle.balance.proofs.Mirrors.{mirror_count, mirror_span}
@@ -11,7 +11,7 @@ use Rattle.cells.specs.declared.cell.Cell.{Cell}
 use Rattle.cells.specs.declared.pool.Pool.{Pool}
 use Rattle.cells.specs.Cells.{shape, tree, seen}
 use Rattle.cells.specs.References.{Arena, Holds}
-use Rattle.cells.specs.Moves.{Moved, Moves, Yields}
+use Rattle.cells.specs.Moves.{Moved, Yields}
 use Rattle.links.specs.Sitting.{Linkable}
 use Rattle.links.proofs.Sides.{arena_turned}
 use Rattle.splits.specs.Splitting.{Grows}

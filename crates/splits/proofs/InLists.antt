@@ -1,10 +1,10 @@
 -- What is taken apart and put together, as lists.
-use Rattle.std.proofs.Common.{◌≡◌, ℕ, List, [], ◌∷◌, ◌++◌, Some, Option, sym, refl, ap, ◌∙◌, subst}
+use Rattle.std.proofs.Common.{◌≡◌, ℕ, List, [], ◌∷◌, ◌++◌, Some, Option, sym, ap, ◌∙◌, subst}
 use Rattle.std.specs.List.{AllByRecursion as All}
 use Rattle.kinds.specs.Kinds.{Meaning, Laws, Lawful}
 use Rattle.kinds.specs.Places.{after}
 use Rattle.balance.specs.Trees.{Tree, elements}
-use Rattle.balance.specs.Edits.{Rest, more, listed, Parted, joined, parted, parted_rest, merge}
+use Rattle.balance.specs.Edits.{Rest, more, listed, joined, parted, parted_rest, merge}
 use Rattle.balance.specs.Costs.{parted_rest_cost}
 use Rattle.balance.proofs.Edits.{parted_divides, parted_rest_divides, joined_elements, merge_elements}
 use Rattle.cells.specs.declared.cell.Cell.{Cell}

@@ -1,12 +1,12 @@
 -- A tree, then what lies behind a place.
-use Rattle.std.proofs.Common.{◌≡◌, ℕ, ◌+◌, ◌^◌, ◌<◌, ◌≤◌, false, List, [], ◌∷◌, ◌++◌, length, Some, None, Option, sym, refl, ap, ◌∙◌, subst, arith}
+use Rattle.std.proofs.Common.{◌≡◌, ℕ, ◌+◌, ◌^◌, ◌<◌, ◌≤◌, false, List, [], ◌∷◌, Some, None, Option, sym, refl, ap, ◌∙◌, subst, arith}
 use Rattle.faults.specs.Limits.{limit}
 use Rattle.kinds.specs.Kinds.{Meaning}
-use Rattle.balance.specs.Trees.{Tree, count, elements}
+use Rattle.balance.specs.Trees.{count, elements}
 use Rattle.balance.specs.Lists.{extents}
 use Rattle.balance.specs.Links.{link}
 use Rattle.balance.specs.Ways.{span}
-use Rattle.balance.specs.Edits.{more, listed, tail, joined}
+use Rattle.balance.specs.Edits.{listed, tail, joined}
 use Rattle.balance.specs.Levels.{most}
 use Rattle.balance.specs.Costs.{link_cost, joined_cost}
 use Rattle.balance.proofs.Ways.{span_extents}
@@ -14,7 +14,7 @@ use Rattle.cells.specs.declared.cell.Cell.{Cell}
 use Rattle.cells.specs.declared.pool.Pool.{Pool}
 use Rattle.cells.specs.Cells.{shape, tree}
 use Rattle.cells.specs.References.{Arena, Holds}
-use Rattle.cells.specs.Moves.{Moved, Moves, Yields}
+use Rattle.cells.specs.Moves.{Yields}
 use Rattle.cells.proofs.Moving.{moves_none}
 use Rattle.links.specs.Sitting.{Linkable}
 use Rattle.splits.specs.declared.split.Loose.{Loose}

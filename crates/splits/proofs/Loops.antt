@@ -1,5 +1,5 @@
 -- The loop up a table.
-use Rattle.std.proofs.Common.{◌≡◌, ℕ, zero, suc, ◌+◌, ◌-◌, ◌^◌, ◌<◌, ◌≤◌, Bool, List, [], ◌∷◌, ◌++◌, length, get_or, take, sym, refl, ap, ◌∙◌, subst, arith}
+use Rattle.std.proofs.Common.{◌≡◌, ℕ, zero, suc, ◌+◌, ◌<◌, ◌≤◌, Bool, List, [], ◌∷◌, ◌++◌, length, get_or, take, sym, refl, ap, ◌∙◌, subst, arith}
 use Rattle.faults.specs.Limits.{limit}
 use Rattle.kinds.specs.Kinds.{Meaning}
 use Rattle.balance.specs.Trees.{Tree, count}
@@ -12,15 +12,14 @@ use Rattle.balance.proofs.Ways.{link_span}
 use Rattle.balance.proofs.Loops.{rebuilt_last, rebuilt_cost_last}
 use Rattle.cells.specs.declared.cell.Cell.{Cell}
 use Rattle.cells.specs.declared.pool.Pool.{Pool}
-use Rattle.cells.specs.Cells.{shape, seen, Live}
-use Rattle.cells.specs.Reach.{occurs, Among, AllStay, Reached}
+use Rattle.cells.specs.Cells.{shape, seen}
+use Rattle.cells.specs.Reach.{Among, AllStay, Reached}
 use Rattle.cells.specs.References.{Arena}
-use Rattle.cells.specs.Moves.{Moved, Moves}
+use Rattle.cells.specs.Moves.{Moves}
 use Rattle.cells.proofs.Staying.{occurs_append, stays_refl, stays_trans}
 use Rattle.cells.proofs.Names.{hit_same}
 use Rattle.cells.proofs.Moving.{moves_none, moves_then}
-use Rattle.links.specs.Sitting.{Linkable}
-use Rattle.walks.specs.Walks.{Passed, Table}
+use Rattle.walks.specs.Walks.{Table}
 use Rattle.splits.specs.Splitting.{Grows}
 use Rattle.splits.specs.Regrowing.{Joinable, Growable, Grown, Regrown}
 use Rattle.splits.proofs.Tables.{Last, table_one, table_split, reached_stays, stays_reached, live_reached, table_stays}

@@ -1,12 +1,12 @@
 -- A loose element and the tree behind it, taken apart.
-use Rattle.std.proofs.Common.{◌≡◌, ℕ, ◌+◌, ◌-◌, ◌^◌, ◌<◌, ◌≤◌, true, false, ltb, List, [], ◌∷◌, ◌++◌, length, Some, None, Option, sym, refl, ap, ◌∙◌, subst, arith, length-append, le-ltb, lt-ltb}
+use Rattle.std.proofs.Common.{◌≡◌, ℕ, ◌+◌, ◌-◌, ◌^◌, ◌<◌, ◌≤◌, false, ltb, List, [], ◌∷◌, ◌++◌, length, Some, None, Option, sym, refl, ap, ◌∙◌, subst, arith, length-append, le-ltb, lt-ltb}
 use Rattle.faults.specs.Limits.{limit}
-use Rattle.kinds.specs.Kinds.{Meaning, Laws, Lawful}
+use Rattle.kinds.specs.Kinds.{Meaning, Laws}
 use Rattle.balance.specs.Trees.{Tree, leaf, count, elements}
 use Rattle.balance.specs.Lists.{Shape, extents}
 use Rattle.balance.specs.Links.{link}
 use Rattle.balance.specs.Ways.{span}
-use Rattle.balance.specs.Edits.{Rest, done, more, listed, tail, Parted, up_to, on_from, parted, parted_rest}
+use Rattle.balance.specs.Edits.{done, more, listed, tail, Parted, up_to, on_from, parted, parted_rest}
 use Rattle.balance.specs.Levels.{most}
 use Rattle.balance.specs.Costs.{link_cost, up_to_cost, parted_cost, parted_rest_cost}
 use Rattle.balance.proofs.Tests.{test_true, test_false}
@@ -15,12 +15,12 @@ use Rattle.balance.proofs.Edits.{Sound, parted_sound}
 use Rattle.cells.specs.declared.cell.Cell.{Cell}
 use Rattle.cells.specs.declared.pool.Pool.{Pool}
 use Rattle.cells.specs.Cells.{shape, cell_count, tree, Live}
-use Rattle.cells.specs.Reach.{occurs, Among, Stays}
+use Rattle.cells.specs.Reach.{Among, Stays}
 use Rattle.cells.specs.References.{Arena, Holds}
-use Rattle.cells.specs.Moves.{Moved, Moves, Yields, Releases}
+use Rattle.cells.specs.Moves.{Moves, Yields, Releases}
 use Rattle.cells.proofs.Names.{hit_same}
-use Rattle.cells.proofs.Staying.{occurs_append, stays_trans}
-use Rattle.cells.proofs.Arenas.{rooted, rerooted}
+use Rattle.cells.proofs.Staying.{occurs_append}
+use Rattle.cells.proofs.Arenas.{rooted}
 use Rattle.cells.proofs.Moving.{moves_none, moves_then, seen_stays}
 use Rattle.cells.proofs.Trees.{known}
 use Rattle.links.specs.Sitting.{Linkable}

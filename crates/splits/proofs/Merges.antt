@@ -1,5 +1,5 @@
 -- A tree, then another, which is lent.
-use Rattle.std.proofs.Common.{◌≡◌, ℕ, ◌+◌, ◌^◌, ◌<◌, ◌≤◌, false, List, [], ◌∷◌, ◌++◌, length, Some, None, Option, sym, refl, ap, ◌∙◌, subst, arith}
+use Rattle.std.proofs.Common.{◌≡◌, ℕ, ◌+◌, ◌^◌, ◌<◌, ◌≤◌, false, List, [], ◌∷◌, ◌++◌, Some, None, Option, sym, refl, ap, ◌∙◌, subst, arith}
 use Rattle.std.specs.List.{AllByRecursion as All}
 use Rattle.faults.specs.Limits.{limit}
 use Rattle.kinds.specs.Kinds.{Meaning, Laws, Lawful}
@@ -13,11 +13,11 @@ use Rattle.balance.proofs.Edits.{Sound, parted_sound}
 use Rattle.cells.specs.declared.cell.Cell.{Cell}
 use Rattle.cells.specs.declared.pool.Pool.{Pool}
 use Rattle.cells.specs.Cells.{shape, cell_count, tree, Live}
-use Rattle.cells.specs.Reach.{occurs, Among, Stays, AllStay}
+use Rattle.cells.specs.Reach.{Among, Stays}
 use Rattle.cells.specs.References.{Arena}
 use Rattle.cells.specs.Moves.{Moved, Moves, Releases}
 use Rattle.cells.proofs.Names.{hit_same}
-use Rattle.cells.proofs.Staying.{occurs_append, stays_trans}
+use Rattle.cells.proofs.Staying.{occurs_append}
 use Rattle.cells.proofs.Arenas.{rooted, rerooted}
 use Rattle.cells.proofs.Moving.{moves_none, moves_then, seen_stays}
 use Rattle.cells.proofs.Trees.{known}
@@ -25,7 +25,7 @@ use Rattle.walks.proofs.Atoms.{tree_lawful}
 use Rattle.splits.specs.declared.split.Loose.{Loose}
 use Rattle.splits.specs.declared.split.Split.{Split}
 use Rattle.splits.specs.Owning.{Owns}
-use Rattle.splits.specs.Splitting.{behind, loose_roots, AllTied, Grows, Splits}
+use Rattle.splits.specs.Splitting.{behind, loose_roots, Grows, Splits}
 use Rattle.splits.proofs.Places.{parted_extents}
 
 -- what lies behind a place stays while its root does

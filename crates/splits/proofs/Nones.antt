@@ -1,5 +1,5 @@
 -- A number that is no cell is the root of an empty tree, and owned for nothing.
-use Rattle.std.proofs.Common.{◌≡◌, ℕ, ◌+◌, ◌<◌, ◌≤◌, List, [], ◌∷◌, ◌++◌, arith}
+use Rattle.std.proofs.Common.{◌≡◌, ℕ, ◌≤◌, List, [], ◌∷◌, arith}
 use Rattle.std.proofs.lemmas.Option.{slice_get_past}
 use Rattle.kinds.specs.Kinds.{Meaning}
 use Rattle.balance.specs.Trees.{leaf}
@@ -7,7 +7,7 @@ use Rattle.cells.specs.declared.cell.Cell.{Cell}
 use Rattle.cells.specs.declared.pool.Pool.{Pool}
 use Rattle.cells.specs.Cells.{tree}
 use Rattle.cells.specs.References.{Arena}
-use Rattle.cells.specs.Moves.{Moved, Moves}
+use Rattle.cells.specs.Moves.{Moves}
 use Rattle.cells.proofs.Names.{hit_other}
 use Rattle.cells.proofs.Staying.{stays_refl, takes_refl}
 use Rattle.cells.proofs.Arenas.{rerooted}

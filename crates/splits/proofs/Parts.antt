@@ -1,14 +1,14 @@
 -- A tree taken apart: a walk down, and up again on both sides.
-use Rattle.std.proofs.Common.{◌≡◌, ℕ, ◌+◌, ◌-◌, ◌^◌, ◌<◌, ◌≤◌, Bool, true, false, ltb, ◌⊎◌, List, [], ◌∷◌, ◌++◌, length, take, Some, None, Option, sym, refl, ap, ◌∙◌, subst, inl, inr, ⊎_elim, arith, le-ltb, lt-ltb}
+use Rattle.std.proofs.Common.{◌≡◌, ℕ, ◌+◌, ◌-◌, ◌^◌, ◌<◌, ◌≤◌, Bool, true, false, ltb, List, [], ◌∷◌, length, take, Some, None, Option, sym, refl, ap, ◌∙◌, subst, ⊎_elim, arith, le-ltb, lt-ltb}
 use Rattle.std.specs.List.{slice_get}
 use Rattle.std.proofs.lemmas.Bool.{cases_eq}
 use Rattle.faults.specs.Limits.{limit}
-use Rattle.kinds.specs.Kinds.{Meaning, Laws, Lawful, total}
-use Rattle.balance.specs.Trees.{Tree, leaf, node, count, mirror}
+use Rattle.kinds.specs.Kinds.{Meaning, Laws}
+use Rattle.balance.specs.Trees.{Tree, leaf, count, mirror}
 use Rattle.balance.specs.Lists.{Shape}
 use Rattle.balance.specs.Links.{link, rebuilt, passed_count}
-use Rattle.balance.specs.Ways.{Way, here, whole, Step, walked, passed_left, passed_right, span, passed_span, way}
-use Rattle.balance.specs.Edits.{Rest, done, more, Parted, up_to, on_from, before, rest, parted}
+use Rattle.balance.specs.Ways.{here, whole, walked, passed_left, passed_right, span, passed_span, way}
+use Rattle.balance.specs.Edits.{done, more, up_to, on_from, before, rest, parted}
 use Rattle.balance.specs.Levels.{most}
 use Rattle.balance.specs.Costs.{rebuilt_cost, up_to_cost, before_cost, rest_cost, parted_cost}
 use Rattle.balance.proofs.Tests.{test_true, test_false}
@@ -18,24 +18,21 @@ use Rattle.balance.proofs.Ways.{way_through, link_span}
 use Rattle.balance.proofs.Loops.{walked_count, walked_span, rest_walked, before_walked, rest_cost_walked, before_cost_walked}
 use Rattle.cells.specs.declared.cell.Cell.{Cell}
 use Rattle.cells.specs.declared.pool.Pool.{Pool}
-use Rattle.cells.specs.Cells.{shape, cell_count, tree, seen, linked, Live, Good, Sound, refs_at, referred}
-use Rattle.cells.specs.Reach.{hit, occurs, Among, Alike, Stays, AllStay, Reached}
+use Rattle.cells.specs.Cells.{shape, cell_count, tree, linked, Live, Good, Sound, referred}
+use Rattle.cells.specs.Reach.{Among, Alike, Stays, Reached}
 use Rattle.cells.specs.References.{Arena, Holds}
 use Rattle.cells.specs.Moves.{Moved, Moves, Retains}
-use Rattle.cells.proofs.Lists.{some_in}
 use Rattle.cells.proofs.Names.{hit_same, hit_other}
-use Rattle.cells.proofs.Staying.{stays_trans}
 use Rattle.cells.proofs.Arenas.{rooted}
 use Rattle.cells.proofs.Moving.{moves_none, moves_more, moves_then, seen_stays}
 use Rattle.cells.proofs.Trees.{known}
 use Rattle.cells.proofs.Lost.{none_lost}
 use Rattle.links.proofs.Sides.{near_stays}
 use Rattle.walks.specs.declared.answers.Found.{Found}
-use Rattle.walks.specs.Walks.{Passed, Table, Walked}
+use Rattle.walks.specs.Walks.{Table, Walked}
 use Rattle.splits.specs.declared.split.Loose.{Loose}
-use Rattle.splits.specs.declared.split.Split.{Split}
 use Rattle.splits.specs.Owning.{Owns}
-use Rattle.splits.specs.Splitting.{behind, loose_roots, Tied, Grows, Splits, Leaves}
+use Rattle.splits.specs.Splitting.{Tied, Grows, Splits, Leaves}
 use Rattle.splits.specs.Regrowing.{Climbable, Regrown}
 use Rattle.splits.specs.Sides.{Behind, Before}
 use Rattle.splits.proofs.Tables.{reached_stays, stays_reached, live_reached}

@@ -1,17 +1,15 @@
 -- One cell more.
-use Rattle.std.proofs.Common.{◌≡◌, ℕ, ◌+◌, ◌^◌, ◌<◌, ◌≤◌, Bool, List, [], ◌∷◌, ◌++◌, length, Some, sym, refl, ap, ◌∙◌, subst, arith}
+use Rattle.std.proofs.Common.{◌≡◌, ℕ, ◌+◌, ◌^◌, ◌<◌, ◌≤◌, Bool, List, [], ◌∷◌, length, Some, sym, ap, ◌∙◌, subst, arith}
 use Rattle.std.specs.List.{slice_get}
 use Rattle.kinds.specs.Kinds.{Meaning}
 use Rattle.balance.specs.Trees.{Tree}
 use Rattle.balance.specs.Links.{link}
 use Rattle.balance.specs.Costs.{link_cost}
 use Rattle.cells.specs.declared.cell.Cell.{Cell}
-use Rattle.cells.specs.declared.item.Item.{Item}
 use Rattle.cells.specs.declared.pool.Pool.{Pool}
 use Rattle.cells.specs.Cells.{seen, far, Live, Good}
-use Rattle.cells.specs.Reach.{occurs}
 use Rattle.cells.specs.References.{Arena, Holds}
-use Rattle.cells.specs.Moves.{Moved, Moves, Retains}
+use Rattle.cells.specs.Moves.{Moves, Retains}
 use Rattle.cells.proofs.Lists.{some_in}
 use Rattle.cells.proofs.Names.{hit_same}
 use Rattle.cells.proofs.Arenas.{rerooted}
@@ -19,7 +17,6 @@ use Rattle.cells.proofs.Moving.{moves_none, moves_then, seen_stays}
 use Rattle.links.specs.Opened.{Whole}
 use Rattle.links.specs.Sitting.{Linkable}
 use Rattle.links.proofs.Sides.{far_live}
-use Rattle.walks.specs.Walks.{Passed}
 use Rattle.splits.specs.Splitting.{Grows}
 use Rattle.splits.specs.Regrowing.{Joinable, Grown}
 use Rattle.splits.proofs.Tables.{passed_is}

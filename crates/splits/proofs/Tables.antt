@@ -1,12 +1,12 @@
 -- Tables of passed cells: what they stand for, and that it stays.
-use Rattle.std.proofs.Common.{◌≡◌, ℕ, suc, ◌+◌, ◌<◌, ◌≤◌, Bool, true, false, List, [], ◌∷◌, ◌++◌, length, Some, None, Option, sym, refl, ap, ◌∙◌, subst, arith}
+use Rattle.std.proofs.Common.{◌≡◌, ℕ, Bool, true, false, List, [], ◌∷◌, ◌++◌, Some, None, Option, sym, refl, ap, ◌∙◌, subst, arith}
 use Rattle.std.specs.List.{slice_get}
 use Rattle.kinds.specs.Kinds.{Meaning}
 use Rattle.balance.specs.Trees.{Tree}
 use Rattle.cells.specs.declared.cell.Cell.{Cell}
 use Rattle.cells.specs.declared.pool.Pool.{Pool}
-use Rattle.cells.specs.Cells.{seen, far, linked, Live, Sound}
-use Rattle.cells.specs.Reach.{hit, occurs, Among, follow, child, SameCell, Alike, Stays, AllStay, Reached}
+use Rattle.cells.specs.Cells.{seen, far, linked, Live}
+use Rattle.cells.specs.Reach.{Among, SameCell, Alike, Stays, AllStay, Reached}
 use Rattle.cells.specs.References.{Arena}
 use Rattle.cells.proofs.Names.{hit_same}
 use Rattle.cells.proofs.Staying.{follow_same, reached_live}

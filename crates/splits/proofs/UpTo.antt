@@ -1,10 +1,10 @@
 -- The first atoms of an element, behind a tree.
-use Rattle.std.proofs.Common.{◌≡◌, ℕ, ◌+◌, ◌-◌, ◌^◌, ◌<◌, ◌≤◌, Bool, true, false, eqb, List, [], ◌∷◌, ◌++◌, length, Some, None, sym, refl, ap, ◌∙◌, subst, arith}
+use Rattle.std.proofs.Common.{◌≡◌, ℕ, ◌-◌, ◌^◌, ◌<◌, ◌≤◌, false, eqb, List, [], ◌∷◌, length, Some, None, sym, ap, ◌∙◌, subst, arith}
 use Rattle.std.proofs.lemmas.Bool.{eq-eqb, ne_eqb}
 use Rattle.faults.specs.Limits.{limit}
 use Rattle.kinds.specs.Kinds.{Meaning, Laws, Lawful, Within, total}
-use Rattle.kinds.proofs.Totals.{part_lawful, part_extent}
-use Rattle.balance.specs.Trees.{Tree, leaf, node, count}
+use Rattle.kinds.proofs.Totals.{part_lawful}
+use Rattle.balance.specs.Trees.{Tree, leaf, count}
 use Rattle.balance.specs.Lists.{Shape}
 use Rattle.balance.specs.Links.{link}
 use Rattle.balance.specs.Ways.{span}
@@ -15,10 +15,8 @@ use Rattle.balance.proofs.Tests.{test_true, test_false}
 use Rattle.balance.proofs.Links.{link_count}
 use Rattle.balance.proofs.Ways.{link_span}
 use Rattle.cells.specs.declared.cell.Cell.{Cell}
-use Rattle.cells.specs.declared.item.Item.{Item}
 use Rattle.cells.specs.declared.pool.Pool.{Pool}
 use Rattle.cells.specs.Cells.{shape, tree}
-use Rattle.cells.specs.Reach.{occurs}
 use Rattle.cells.specs.References.{Arena, Holds}
 use Rattle.cells.specs.Moves.{Moved, Moves, Yields}
 use Rattle.cells.proofs.Arenas.{rerooted}

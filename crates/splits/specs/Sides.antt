@@ -1,5 +1,5 @@
 -- What the two sides of a place are grown from.
-use Rattle.std.specs.Prelude.{ℕ, ◌+◌, ◌-◌, ◌^◌, ◌<◌, ◌≤◌, true, false, List, length}
+use Rattle.std.specs.Prelude.{ℕ, ◌-◌, ◌^◌, ◌<◌, ◌≤◌, true, false, List, length}
 use Rattle.kinds.specs.Kinds.{Meaning, Lawful}
 use Rattle.balance.specs.Trees.{mirror}
 use Rattle.balance.specs.Edits.{up_to}

@@ -1,18 +1,18 @@
 -- Tempo is a lawful kind.
-use Rattle.std.specs.Prelude.{◌≡◌, ℕ, zero, suc, ◌+◌, ◌*◌, ◌<◌, ◌≤◌, Bool, true, false, cond, List, [], ◌∷◌, length, take, replicate, Ok, Err, ◌==◌, nat_lt, refl}
+use Rattle.std.specs.Prelude.{◌≡◌, ℕ, zero, suc, ◌*◌, ◌≤◌, Bool, true, false, cond, List, [], ◌∷◌, length, take, replicate, Ok, Err, ◌==◌, nat_lt, refl}
 use Rattle.std.proofs.Common.{sym, ap, ◌∙◌, suc-mul, arith, ltb-false}
 use Rattle.std.proofs.lemmas.Bool.{eqb-false}
 use Rattle.std.specs.List.{AllByRecursion as All}
-use Rattle.std.proofs.ByRecursion.{all-has, All-weaker}
+use Rattle.std.proofs.ByRecursion.{all-has}
 use Rattle.std.proofs.lemmas.List.{drop-replicate, take-replicate, length-replicate}
 use Rattle.faults.specs.Limits.{limit}
 use Rattle.faults.specs.Numbers.{cause_number}
 use Rattle.faults.specs.declared.causes.Cause.{Cause}
 use Rattle.faults.specs.declared.causes.Cause.TheVariants.{NoExtent, NoTempo, TempoAboveLimit, ExtentAboveLimit}
-use Rattle.kinds.specs.Kinds.{Meaning, Laws, Lawful, of_numbers, of_part, Within, IsAtom, Tallies, Joinable, total}
+use Rattle.kinds.specs.Kinds.{Laws, Lawful, of_numbers, of_part, IsAtom, Tallies, total}
 use Rattle.tempo.specs.declared.span.Span.{Span}
 use Rattle.tempo.specs.declared.beats.Beats.{Beats}
-use Rattle.tempo.specs.Tempo.{span, span_made, beats, tempo}
+use Rattle.tempo.specs.Tempo.{span, beats, tempo}
 
 -- what holds of every element
 pub record Timed (e : Span) : Type 0 where

@@ -1,5 +1,5 @@
 -- Tempo elements: so many ticks at a tempo, 960 ticks a beat, the tempo in microseconds a beat.
-use Rattle.std.specs.Prelude.{ℕ, ◌+◌, cond, List, replicate, Ok, Err, Result, ◌==◌, nat_lt}
+use Rattle.std.specs.Prelude.{ℕ, ◌+◌, cond, replicate, Ok, Err, Result, ◌==◌, nat_lt}
 use Rattle.faults.specs.Limits.{limit}
 use Rattle.faults.specs.declared.causes.Cause.{Cause}
 use Rattle.faults.specs.declared.causes.Cause.TheVariants.{NoExtent, NoTempo, TempoAboveLimit, ExtentAboveLimit}

@@ -1,5 +1,5 @@
 -- Lists divided at a place: how many elements they have then, and what is put at the end.
-use Rattle.std.proofs.Common.{◌≡◌, ℕ, ◌+◌, ◌-◌, ◌≤◌, Bool, true, false, cond, eqb, leb, List, [], ◌∷◌, ◌++◌, length, sym, refl, ap, ◌∙◌, append-nil, arith, length-append}
+use Rattle.std.proofs.Common.{◌≡◌, ℕ, ◌+◌, ◌-◌, ◌≤◌, Bool, true, false, cond, eqb, leb, List, [], ◌∷◌, ◌++◌, length, refl, ap, ◌∙◌, append-nil, arith, length-append}
 use Rattle.kinds.specs.Kinds.{Meaning}
 use Rattle.kinds.specs.Places.{extent, extent_of, before, after, put_at, without}
 use Rattle.kinds.proofs.Places.{before_behind, after_behind, after_fewer}

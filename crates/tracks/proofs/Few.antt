@@ -8,7 +8,7 @@ use Rattle.balance.proofs.Mirrors.{count_length}
 use Rattle.cells.specs.declared.cell.Cell.{Cell}
 use Rattle.cells.specs.declared.pool.Pool.{Pool}
 use Rattle.cells.specs.Cells.{counted, cell_count, referred, around, tree_to, tree, linked, Live, Sound}
-use Rattle.cells.specs.Reach.{hit, occurs, Among, child, follow, Reached, HowMany, none, one, other}
+use Rattle.cells.specs.Reach.{occurs, Among, child, follow, Reached, HowMany, none, one, other}
 use Rattle.cells.specs.References.{Arena, NoneLost}
 use Rattle.cells.proofs.Names.{hit_same, hit_other}
 use Rattle.cells.proofs.Staying.{occurs_append}

@@ -1,12 +1,12 @@
 -- What is known of an owned root and its list.
-use Rattle.std.proofs.Common.{◌≡◌, ℕ, ◌+◌, ◌<◌, ◌≤◌, List, [], ◌∷◌, ◌++◌, length, Some, None, Option, sym, refl, ap, ◌∙◌, subst, arith}
+use Rattle.std.proofs.Common.{◌≡◌, ℕ, ◌≤◌, List, [], ◌∷◌, length, Some, None, Option, sym, refl, ap, ◌∙◌, arith}
 use Rattle.std.specs.List.{slice_get}
 use Rattle.std.proofs.lemmas.Option.{slice_get_past}
 use Rattle.faults.specs.Limits.{limit}
 use Rattle.kinds.specs.Kinds.{Meaning}
 use Rattle.kinds.specs.Places.{extent_of}
 use Rattle.kinds.proofs.Places.{extent_counts}
-use Rattle.balance.specs.Trees.{leaf, elements}
+use Rattle.balance.specs.Trees.{elements}
 use Rattle.balance.specs.Ways.{span}
 use Rattle.balance.proofs.Mirrors.{count_length}
 use Rattle.cells.specs.declared.cell.Cell.{Cell}
@@ -14,7 +14,7 @@ use Rattle.cells.specs.declared.pool.Pool.{Pool}
 use Rattle.cells.specs.Cells.{shape, cell_count, tree, linked, Live, meant}
 use Rattle.cells.specs.Reach.{Among, Stays}
 use Rattle.cells.specs.References.{Arena}
-use Rattle.cells.proofs.Names.{hit_same, hit_other}
+use Rattle.cells.proofs.Names.{hit_other}
 use Rattle.cells.proofs.Staying.{tree_stays}
 use Rattle.cells.proofs.Trees.{none_tree, known, meant_span}
 use Rattle.cells.proofs.Arenas.{rooted, rerooted}

@@ -1,27 +1,26 @@
 -- Laying one piece, and one after the other.
-use Rattle.std.proofs.Common.{◌≡◌, ℕ, ◌+◌, ◌*◌, ◌^◌, ◌<◌, ◌≤◌, Bool, true, false, cond, ltb, List, [], ◌∷◌, ◌++◌, length, get_or, take, drop, is_err, IsErrAnd, IfOk, Some, None, Ok, Err, Option, Result, sym, refl, ap, ◌∙◌, subst, append_assoc, append-nil, arith, length-append, drop-cons, ltb-false, MatchResult}
+use Rattle.std.proofs.Common.{◌≡◌, ℕ, ◌+◌, ◌*◌, ◌<◌, ◌≤◌, Bool, true, false, ltb, List, [], ◌∷◌, ◌++◌, length, get_or, take, drop, is_err, IsErrAnd, IfOk, Some, None, Ok, Err, Option, Result, sym, refl, ap, ◌∙◌, subst, append_assoc, append-nil, arith, length-append, drop-cons, ltb-false, MatchResult}
 use borrow.Author.Tests.{clash}
 use Rattle.std.proofs.lemmas.List.{take_more, drop_all}
 use Rattle.faults.specs.Limits.{limit}
 use Rattle.faults.specs.declared.causes.Cause.{Cause}
 use Rattle.faults.specs.declared.session.SessionFault.{SessionFault}
 use Rattle.faults.specs.declared.session.SessionFault.TheVariants.{BeyondEnd, Unlawful, ExtentLimit, ElementLimit, FewCells}
-use Rattle.kinds.specs.Kinds.{Meaning, Lawful}
+use Rattle.kinds.specs.Kinds.{Meaning}
 use Rattle.kinds.specs.Places.{elements_of, extent, extent_of, put_at}
 use Rattle.balance.specs.Levels.{most}
 use Rattle.cells.specs.declared.cell.Cell.{Cell}
 use Rattle.cells.specs.declared.pool.Pool.{Pool}
 use Rattle.cells.specs.Cells.{cell_count}
-use Rattle.cells.specs.Reach.{Among, Stays}
 use Rattle.cells.specs.References.{Arena}
-use Rattle.cells.specs.Moves.{Moved, Moves, Releases}
+use Rattle.cells.specs.Moves.{Moves, Releases}
 use Rattle.cells.proofs.Names.{hit_same}
 use Rattle.cells.proofs.Staying.{stays_refl, stays_trans, count_stays, takes_refl, takes_trans, takes_more}
 use Rattle.cells.proofs.Arenas.{rerooted}
 use Rattle.cells.proofs.Moving.{moves_more, moves_then}
 use Rattle.flat.specs.Refusals.{element_limit, cells_wanted, fault_if, first_of, unless, unlawful, too_long, too_many, few_cells_fault, beyond_end}
 use Rattle.flat.proofs.Acceptance.{not_above}
-use Rattle.edits.specs.Edits.{list, insert_takes, Makes}
+use Rattle.edits.specs.Edits.{list, insert_takes}
 use Rattle.tracks.specs.declared.piece.Piece.{Piece}
 use Rattle.tracks.specs.Laying.{least_free, no_room_fault, made_of, not_laid, next_not_laid, Lays, Refuses, LaysAll}
 use Rattle.tracks.proofs.Counts.{put_end}

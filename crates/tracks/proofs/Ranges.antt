@@ -1,5 +1,5 @@
 -- Ranges taken out and lists put in: when they are refused, and what is given back.
-use Rattle.std.proofs.Common.{◌≡◌, ℕ, ◌+◌, ◌<◌, ◌≤◌, Bool, true, false, cond, eqb, ltb, List, [], ◌∷◌, ◌++◌, length, Some, None, Option, sym, refl, ap, ◌∙◌, subst, arith, ltb-true, le-ltb, lt-ltb, eq-eqb, ne_eqb}
+use Rattle.std.proofs.Common.{◌≡◌, ℕ, ◌+◌, ◌<◌, ◌≤◌, Bool, true, false, ltb, List, [], ◌∷◌, ◌++◌, length, Some, None, Option, refl, ap, ◌∙◌, arith, ltb-true, le-ltb, lt-ltb, eq-eqb, ne_eqb}
 use borrow.Author.Tests.{clash}
 use Rattle.faults.specs.Limits.{limit}
 use Rattle.faults.specs.declared.session.SessionFault.{SessionFault}
@@ -13,13 +13,11 @@ use Rattle.cells.specs.Cells.{cell_count}
 use Rattle.cells.specs.Reach.{Among}
 use Rattle.cells.specs.References.{Arena}
 use Rattle.cells.specs.Moves.{Moves, Releases}
-use Rattle.cells.proofs.Names.{hit_same}
 use Rattle.cells.proofs.Staying.{occurs_append, stays_trans, takes_more, takes_trans}
-use Rattle.flat.specs.Refusals.{element_limit, cells_wanted, fault_if, first_of, unless, is_empty, empty_range_fault, range_past_end, beyond_end, too_long, too_many, few_cells_fault}
+use Rattle.flat.specs.Refusals.{element_limit, cells_wanted, fault_if, first_of, unless, is_empty, range_past_end, beyond_end, too_long, too_many, few_cells_fault}
 use Rattle.edits.specs.Edits.{list}
 use Rattle.tracks.specs.Laying.{no_room_fault}
 use Rattle.tracks.specs.Moving.{not_taken, not_put}
-use Rattle.tracks.proofs.Counts.{put_count}
 use Rattle.tracks.proofs.Owned.{list_stays, owned_count}
 use Rattle.tracks.proofs.Pieces.{puts, puts_good, puts_bad}
 

@@ -1,5 +1,5 @@
 -- The versions of a rearrangement, one step after the other, and all of them given back.
-use Rattle.std.proofs.Common.{◌≡◌, ℕ, ◌+◌, ◌-◌, ◌^◌, ◌<◌, ◌≤◌, true, List, [], ◌∷◌, ◌++◌, length, take, drop, is_err, IsErrAnd, Some, None, Ok, Err, Result, sym, refl, ap, ◌∙◌, subst, arith, MatchResult}
+use Rattle.std.proofs.Common.{◌≡◌, ℕ, ◌-◌, ◌^◌, ◌≤◌, true, List, [], ◌∷◌, length, take, is_err, IsErrAnd, Some, None, Ok, Err, Result, sym, refl, ap, ◌∙◌, subst, arith, MatchResult}
 use borrow.Author.Tests.{clash}
 use Rattle.std.proofs.lemmas.List.{take_all}
 use Rattle.faults.specs.declared.session.SessionFault.{SessionFault}
@@ -15,7 +15,7 @@ use Rattle.cells.specs.References.{Arena, NoneLost}
 use Rattle.cells.specs.Moves.{Releases}
 use Rattle.cells.proofs.Names.{hit_same}
 use Rattle.splits.specs.Owning.{Owns}
-use Rattle.flat.specs.Refusals.{element_limit, fewest_cells}
+use Rattle.flat.specs.Refusals.{fewest_cells}
 use Rattle.edits.specs.declared.removal.Removal.{Removal}
 use Rattle.edits.specs.Edits.{list, edit_takes}
 use Rattle.tracks.specs.declared.piece.Piece.{Piece}

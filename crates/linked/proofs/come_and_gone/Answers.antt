@@ -1,4 +1,4 @@
-use Rattle.std.proofs.Common.{◌≡◌, [], sym, ◌∙◌, arith}
+use Rattle.std.proofs.Common.{[], arith}
 use Rattle.linked.proofs.Lives.{start_owned, first_fits, holds_b, linkable_b, some_b, arena_c, few_c, free_c}
 use Rattle.linked.proofs.come_and_gone.Goals as goal
 

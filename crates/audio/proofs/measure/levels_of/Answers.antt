@@ -1,11 +1,10 @@
-use Rattle.std.proofs.Common.{◌≡◌, ◌+◌, ◌<◌, ◌≤◌, List, [], ◌∷◌, length, get_or, take, ℤ, pos, sym, refl, ap, ◌∙◌, arith, w16, SFits, to_z, of_z, rules}
+use Rattle.std.proofs.Common.{◌≡◌, ◌+◌, get_or, take, pos, sym, ap, ◌∙◌, arith, w16, SFits, to_z, of_z, rules}
 use Rattle.std.specs.Int.{int_max, int_min}
 use Rattle.std.proofs.ByRecursion.{All-get_or}
 use Rattle.std.proofs.lemmas.List.{take_all}
 use Rattle.std.proofs.lemmas.Int.{to_z-of_z}
 use Rattle.kinds.specs.Kinds.{total}
-use Rattle.audio.specs.declared.levels.Levels.{Levels}
-use Rattle.audio.specs.Audio.{audio, count_at_end, joined_levels, one_sample}
+use Rattle.audio.specs.Audio.{audio, count_at_end, joined_levels}
 use Rattle.audio.specs.Levels.{same_levels, measured, at_end_le}
 use Rattle.audio.proofs.Sums.{total_more}
 use Rattle.audio.proofs.measure.levels_of.Goals as goal

@@ -1,4 +1,4 @@
-use Rattle.std.proofs.Common.{◌≡◌, ◌≤◌, take, w16, SFits}
+use Rattle.std.proofs.Common.{◌≡◌, ◌≤◌, take}
 use Rattle.kinds.specs.Kinds.{total}
 use Rattle.audio.specs.Audio.{audio}
 use Rattle.audio.proofs.measure.levels_of.Given as goal

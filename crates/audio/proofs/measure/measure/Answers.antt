@@ -1,4 +1,4 @@
-use Rattle.std.proofs.Common.{◌≡◌, ◌+◌, ◌-◌, ◌≤◌, min, length, sym, ap, ◌∙◌, arith}
+use Rattle.std.proofs.Common.{◌≡◌, ◌+◌, ◌-◌, min, length, sym, ap, ◌∙◌, arith}
 use Rattle.kinds.specs.Kinds.{total}
 use Rattle.reels.specs.Samples.{stretch}
 use Rattle.audio.specs.Audio.{audio, joined_levels}

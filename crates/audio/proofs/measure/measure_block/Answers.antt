@@ -1,6 +1,5 @@
-use Rattle.std.proofs.Common.{◌≡◌, ◌-◌, ◌≤◌, min, List, ◌++◌, length, take, drop, ℤ, sym, ap, ◌∙◌, subst, arith, length-take, w16, SFits}
+use Rattle.std.proofs.Common.{◌≡◌, ◌-◌, min, length, take, drop, ap, ◌∙◌, arith, length-take}
 use native.Mathlib.Nat.{sub-zero}
-use Rattle.std.specs.List.{AllByRecursion as All}
 use Rattle.kinds.specs.Kinds.{total}
 use Rattle.reels.proofs.Copies.{read_back, length_stretch}
 use Rattle.reels.specs.Samples.{stretch}

@@ -1,4 +1,4 @@
-use Rattle.std.proofs.Common.{◌-◌, get_or, arith}
+use Rattle.std.proofs.Common.{◌-◌, arith}
 use Rattle.cells.proofs.Debts.{topmost_owned, topmost_none, topmost_one, topmost_last}
 use Rattle.cells.proofs.releasing.pay.Goals as goal
 

@@ -1,4 +1,4 @@
-use Rattle.std.proofs.Common.{◌+◌, length, refl, arith}
+use Rattle.std.proofs.Common.{length, refl, arith}
 use Rattle.cells.proofs.Starts.{free_more, started}
 use Rattle.cells.proofs.starting.start.Goals as goal
 

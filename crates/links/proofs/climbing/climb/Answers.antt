@@ -1,5 +1,5 @@
 use Rattle.std.proofs.Common.{◌-◌, arith}
-use Rattle.links.proofs.Climbs.{climbing_start, row, above, is_inside, raised_sits, free_left, climbing_more, climbing_end}
+use Rattle.links.proofs.Climbs.{climbing_start, above, is_inside, raised_sits, free_left, climbing_more, climbing_end}
 use Rattle.links.proofs.climbing.climb.Goals as goal
 
 pub loop-n-init : goal.loop-n-init

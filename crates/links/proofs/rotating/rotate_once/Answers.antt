@@ -1,6 +1,5 @@
 use Rattle.std.proofs.Common.{◌∷◌, arith}
 use Rattle.cells.specs.Cells.{seen}
-use Rattle.balance.specs.Trees.{node}
 use Rattle.links.proofs.Rotations.{sits_right, sits_fits, low_first, low_arena, top_fits, rotated_once}
 use Rattle.links.proofs.rotating.rotate_once.Goals as goal
 

@@ -1,4 +1,4 @@
-use Rattle.std.proofs.Common.{◌≡◌, ◌^◌, [], ◌∷◌, length, ap, arith}
+use Rattle.std.proofs.Common.{◌^◌, [], ◌∷◌, length, ap, arith}
 use Rattle.cells.proofs.Names.{hit_same}
 use Rattle.paces.proofs.Onces.{lent_live, rests_owns, rests_list, rests_free, rests_then}
 use Rattle.paces.proofs.rounds.cuts.Goals as goal

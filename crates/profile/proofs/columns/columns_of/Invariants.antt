@@ -1,4 +1,4 @@
-use Rattle.std.proofs.Common.{◌≡◌, map, length, take, vec_items}
+use Rattle.std.proofs.Common.{◌≡◌, map, take, vec_items}
 use Rattle.std.specs.List.{range_with_len}
 use Rattle.kinds.specs.Kinds.{total}
 use Rattle.profile.specs.Columns.{edge, column}

@@ -1,4 +1,4 @@
-use Rattle.std.proofs.Common.{◌≡◌, Ok, Err, sym, ap, ◌∙◌, arith}
+use Rattle.std.proofs.Common.{Ok, sym, ap, ◌∙◌, arith}
 use Rattle.kinds.specs.Kinds.{of_numbers}
 use Rattle.profile.specs.Columns.{summary_of}
 use Rattle.profile.proofs.columns.measure.Goals as goal

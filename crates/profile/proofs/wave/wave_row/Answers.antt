@@ -1,4 +1,4 @@
-use Rattle.std.proofs.Common.{◌≡◌, [], ◌∷◌, ◌++◌, map, take, pos, sym, ap, ◌∙◌, arith, w16, to_z, of_z}
+use Rattle.std.proofs.Common.{[], ◌∷◌, ◌++◌, map, take, pos, sym, ap, ◌∙◌, w16, to_z, of_z}
 use Rattle.std.proofs.lemmas.List.{map_more, take_all}
 use Rattle.std.proofs.lemmas.Slice.{pushed}
 use Rattle.std.proofs.lemmas.Int.{to_z-of_z}

@@ -1,4 +1,4 @@
-use Rattle.std.proofs.Common.{◌≡◌, map, take, vec_items, w16, to_z}
+use Rattle.std.proofs.Common.{◌≡◌, map, take, vec_items}
 use Rattle.profile.specs.Wave.{mark}
 use Rattle.profile.proofs.wave.wave_row.Given as goal
 

@@ -1,5 +1,5 @@
-use Rattle.std.proofs.Common.{◌≡◌, sym, ap, ◌∙◌, subst, arith, w16, w32, SFits, to_z, of_z, rules}
-use Rattle.std.proofs.lemmas.Int.{to_z-of_z, to_z_pos, ints}
+use Rattle.std.proofs.Common.{arith, w32, SFits}
+use Rattle.std.proofs.lemmas.Int.{to_z-of_z, ints}
 use Rattle.reels.specs.Gain.{held}
 use Rattle.reels.proofs.gain.hold.Goals as goal
 

@@ -1,4 +1,4 @@
-use Rattle.std.proofs.Common.{◌-◌, ap, subst, arith, length-append}
+use Rattle.std.proofs.Common.{◌-◌, subst, arith, length-append}
 use Rattle.reels.specs.Samples.{Copied}
 use Rattle.reels.proofs.Copies.{filled_both, filled_back}
 use Rattle.reels.proofs.joined.copy_both.Goals as goal

@@ -1,5 +1,4 @@
-use Rattle.std.proofs.Common.{◌≡◌, ◌+◌, ◌*◌, ◌/◌, ◌%◌, ◌++◌, get_or, take, drop, set, pos, Some, None, sym, refl, ap, ◌∙◌, arith, w16, SFits, to_z, of_z, rules}
-use Rattle.std.specs.List.{slice_get}
+use Rattle.std.proofs.Common.{◌≡◌, ◌+◌, ◌*◌, ◌/◌, ◌%◌, ◌++◌, get_or, take, drop, set, pos, refl, ap, ◌∙◌, arith, w16, SFits, of_z, rules}
 use Rattle.std.proofs.lemmas.Int.{to_z-of_z}
 use Rattle.reels.specs.Samples.{bytes_of}
 use Rattle.reels.proofs.Bytes.{length_bytes, put_pair, high_fits}

@@ -1,6 +1,6 @@
 use Rattle.std.proofs.Common.{◌≡◌, ◌-◌, ◌*◌, ◌++◌, length, take, drop, ap, ◌∙◌, arith, length-take}
 use native.Mathlib.Nat.{sub-zero}
-use Rattle.reels.specs.Samples.{bytes_of, stretch}
+use Rattle.reels.specs.Samples.{bytes_of}
 use Rattle.reels.proofs.Copies.{read_back}
 use Rattle.reels.proofs.write.write_block.Goals as goal
 

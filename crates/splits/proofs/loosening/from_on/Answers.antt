@@ -1,4 +1,4 @@
-use Rattle.std.proofs.Common.{◌≡◌, ◌-◌, sym, refl, ap, ◌∙◌, subst}
+use Rattle.std.proofs.Common.{sym, refl, ◌∙◌, subst}
 use Rattle.kinds.specs.Kinds.{Lawful}
 use Rattle.cells.specs.Cells.{shape}
 use Rattle.balance.specs.Trees.{leaf}

@@ -1,9 +1,8 @@
-use Rattle.std.proofs.Common.{◌≡◌, ◌+◌, ◌<◌, ◌≤◌, [], ◌∷◌, ◌++◌, length, Some, None, Ok, Err, sym, refl, ap, ◌∙◌, arith, length-append}
+use Rattle.std.proofs.Common.{◌≡◌, ◌+◌, [], ◌∷◌, ◌++◌, length, sym, refl, ap, ◌∙◌, arith, length-append}
 use Rattle.kinds.specs.Kinds.{Lawful, of_numbers}
 use Rattle.kinds.specs.Places.{elements_of, extent_of, put_at}
 use Rattle.cells.proofs.Names.{hit_same}
 use Rattle.edits.specs.Edits.{list, insert_takes}
-use Rattle.tracks.specs.Laying.{no_room_fault, not_laid}
 use Rattle.tracks.proofs.Counts.{put_end}
 use Rattle.tracks.proofs.Owned.{owned_live, owned_count, owned_short, span_extent}
 use Rattle.tracks.proofs.Pieces.{carried_on, not_made, made_room, same_room, roomy, old_owned, old_few, replaced, new_list}

@@ -1,9 +1,7 @@
-use Rattle.std.proofs.Common.{◌≡◌, ℕ, length, get_or, sym, refl, ap, subst, arith}
-use Rattle.cells.specs.Reach.{Among}
+use Rattle.std.proofs.Common.{ℕ, get_or, sym, refl, subst, arith}
 use Rattle.edits.specs.Edits.{list}
-use Rattle.tracks.specs.declared.piece.Piece.{Piece}
 use Rattle.tracks.specs.Laying.{Lays, Refuses, not_laid}
-use Rattle.tracks.proofs.Pieces.{SoFar, so_far_none, so_far_more, so_far_stopped, so_far_all}
+use Rattle.tracks.proofs.Pieces.{so_far_none, so_far_more, so_far_stopped, so_far_all}
 use Rattle.tracks.proofs.laying.lay_all.Goals as goal
 
 pub loop-piece-init : goal.loop-piece-init

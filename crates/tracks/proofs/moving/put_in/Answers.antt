@@ -1,12 +1,10 @@
-use Rattle.std.proofs.Common.{◌≡◌, ◌+◌, ◌<◌, ◌≤◌, [], ◌∷◌, ◌++◌, length, sym, refl, ap, ◌∙◌, arith}
-use Rattle.kinds.specs.Places.{extent_of, put_at, taken, without}
-use Rattle.kinds.proofs.Places.{taken_fewer}
+use Rattle.std.proofs.Common.{◌+◌, [], ◌∷◌, length, sym, refl, ap, ◌∙◌, arith}
+use Rattle.kinds.specs.Places.{extent_of, put_at}
 use Rattle.cells.proofs.Names.{hit_same}
 use Rattle.cells.proofs.Moving.{moves_none, moves_more}
 use Rattle.flat.specs.Refusals.{cells_wanted}
 use Rattle.edits.specs.Edits.{list, edit_takes}
-use Rattle.tracks.specs.Laying.{no_room_fault}
-use Rattle.tracks.proofs.Counts.{put_count, without_count}
+use Rattle.tracks.proofs.Counts.{put_count}
 use Rattle.tracks.proofs.Owned.{owned_live, owned_count, owned_short, span_extent}
 use Rattle.tracks.proofs.Pieces.{same_room, roomy}
 use Rattle.tracks.proofs.Ranges.{room_grows, put_beyond, put_none, put_room, short_room, owned_few, released}

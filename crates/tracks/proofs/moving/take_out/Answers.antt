@@ -1,14 +1,12 @@
-use Rattle.std.proofs.Common.{◌≡◌, ◌+◌, ◌<◌, ◌≤◌, [], ◌∷◌, ◌++◌, length, sym, refl, ap, ◌∙◌, arith}
-use Rattle.kinds.specs.Places.{extent_of, put_at, taken, without}
+use Rattle.std.proofs.Common.{[], ◌∷◌, length, sym, refl, ap, ◌∙◌, arith}
+use Rattle.kinds.specs.Places.{taken, without}
 use Rattle.kinds.proofs.Places.{taken_fewer}
 use Rattle.cells.proofs.Names.{hit_same}
 use Rattle.cells.proofs.Moving.{moves_none, moves_more}
-use Rattle.flat.specs.Refusals.{cells_wanted}
 use Rattle.edits.specs.Edits.{list, edit_takes}
-use Rattle.tracks.specs.Laying.{no_room_fault}
-use Rattle.tracks.proofs.Counts.{put_count, without_count}
-use Rattle.tracks.proofs.Owned.{owned_live, owned_count, owned_short, span_extent}
-use Rattle.tracks.proofs.Pieces.{same_room, roomy}
+use Rattle.tracks.proofs.Counts.{without_count}
+use Rattle.tracks.proofs.Owned.{owned_live, owned_count, span_extent}
+use Rattle.tracks.proofs.Pieces.{same_room}
 use Rattle.tracks.proofs.Ranges.{taken_empty, taken_past, taken_room, owned_few, released, other_list}
 use Rattle.tracks.proofs.moving.take_out.Goals as goal
 

@@ -1,4 +1,4 @@
-use Rattle.std.proofs.Common.{◌≡◌, sym, refl, ap, ◌∙◌, arith}
+use Rattle.std.proofs.Common.{◌∙◌}
 use Rattle.tracks.proofs.Versions.{carried_to, stopped_piece, owns_b, some_b, stopped_cut, owns_c, some_c, stopped_paste, kept_all}
 use Rattle.tracks.proofs.rearranging.keep.Goals as goal
 

@@ -1,13 +1,13 @@
-use Rattle.std.proofs.Common.{◌≡◌, [], ◌∷◌, map, length, sym, refl, ap, ◌∙◌, arith}
+use Rattle.std.proofs.Common.{[], ◌∷◌, map, length, ap, ◌∙◌, arith}
 use Rattle.std.specs.List.{range_with_len}
-use Rattle.kinds.specs.Places.{atoms_of, taken, without}
+use Rattle.kinds.specs.Places.{atoms_of, without}
 use Rattle.cells.proofs.Names.{hit_same}
 use Rattle.profile.specs.Columns.{column}
 use Rattle.edits.specs.Edits.{list}
 use Rattle.tracks.specs.Laying.{made_of}
 use Rattle.tracks.specs.Moving.{rearranged}
 use Rattle.tracks.proofs.Owned.{owned_count}
-use Rattle.tracks.proofs.Versions.{carried_to, few_moved, few_left, few_range, few_laid, tells_same, all_free}
+use Rattle.tracks.proofs.Versions.{few_moved, few_left, few_range, few_laid, tells_same, all_free}
 use Rattle.tracks.proofs.rearranging.rearrange.Goals as goal
 
 pub let_go-requires : goal.let_go-requires

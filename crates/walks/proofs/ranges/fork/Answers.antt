@@ -1,4 +1,4 @@
-use Rattle.std.proofs.Common.{◌-◌, arith}
+use Rattle.std.proofs.Common.{arith}
 use Rattle.walks.proofs.Nodes.{node_good, node_count, node_span}
 use Rattle.walks.proofs.Summing.{fork_named, fork_left, fork_right, fork_here, span_few}
 use Rattle.walks.proofs.ranges.fork.Goals as goal

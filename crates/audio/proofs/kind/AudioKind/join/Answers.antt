@@ -1,4 +1,4 @@
-use Rattle.std.proofs.Common.{◌≡◌, length, ap, ◌∙◌, arith}
+use Rattle.std.proofs.Common.{ap, arith}
 use Rattle.audio.specs.Lawfulness.{atoms_measured}
 use Rattle.audio.proofs.kind.AudioKind.join.Goals as goal
 

@@ -1,4 +1,4 @@
-use Rattle.std.proofs.Common.{◌≡◌, ◌+◌, ap, arith}
+use Rattle.std.proofs.Common.{ap, arith}
 use Rattle.audio.specs.Audio.{clip}
 use Rattle.audio.specs.Lawfulness.{clip_extent, inside}
 use Rattle.audio.proofs.kind.AudioKind.part.Goals as goal

@@ -1,4 +1,4 @@
-use Rattle.std.proofs.Common.{sym, ◌∙◌, rules}
+use Rattle.std.proofs.Common.{sym, ◌∙◌}
 use lib.ListN.{length-map}
 use Rattle.reels.proofs.gain.GainReel.len.Goals as goal
 

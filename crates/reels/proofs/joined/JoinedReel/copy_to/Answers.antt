@@ -1,6 +1,5 @@
 use Rattle.std.proofs.Common.{◌≡◌, ◌-◌, ◌++◌, length, take, drop, sym, ap, ◌∙◌, arith, length-take}
 use native.Mathlib.Nat.{sub-zero}
-use Rattle.reels.specs.Samples.{stretch}
 use Rattle.reels.proofs.Copies.{copied_none}
 use Rattle.reels.proofs.Lists.{length_cut, stretch_cut}
 use Rattle.reels.proofs.joined.JoinedReel.copy_to.Goals as goal

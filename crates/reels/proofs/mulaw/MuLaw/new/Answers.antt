@@ -1,6 +1,5 @@
 use Rattle.std.proofs.Common.{refl, arith, rules}
 use lib.ListN.{length-map}
-use Rattle.reels.specs.MuLaw.{decoded}
 use Rattle.reels.proofs.Lists.{cut_short}
 use Rattle.reels.proofs.mulaw.MuLaw.new.Goals as goal
 

@@ -1,7 +1,6 @@
 use Rattle.std.proofs.Common.{◌≡◌, ◌+◌, ◌-◌, ◌++◌, map, take, drop, sym, ap, ◌∙◌, arith}
 use native.Mathlib.Nat.{sub-zero}
 use lib.ListN.{length-map}
-use Rattle.std.proofs.lemmas.List.{take-map, drop-map}
 use Rattle.reels.specs.MuLaw.{decoded, mu_law_samples}
 use Rattle.reels.specs.Samples.{stretch}
 use Rattle.reels.proofs.Copies.{copied_none}

@@ -1,4 +1,4 @@
-use Rattle.std.proofs.Common.{◌≡◌, ◌<◌, length, get_or, sym, arith, w16, SFits, rules}
+use Rattle.std.proofs.Common.{◌<◌, length, get_or, sym, arith, w16, SFits, rules}
 use lib.ListN.{length-map}
 use Rattle.std.proofs.lemmas.Option.{slice_get-get_or, slice_get_past}
 use Rattle.std.proofs.lemmas.Int.{to_z-of_z}

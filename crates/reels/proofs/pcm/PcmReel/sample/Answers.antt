@@ -1,4 +1,4 @@
-use Rattle.std.proofs.Common.{◌≡◌, ◌<◌, sym, arith, w16, SFits, rules}
+use Rattle.std.proofs.Common.{◌<◌, sym, arith, w16, SFits, rules}
 use Rattle.std.proofs.lemmas.Option.{slice_get_past}
 use Rattle.std.proofs.lemmas.Int.{to_z-of_z}
 use Rattle.reels.proofs.Lists.{length_cut, nth_cut}

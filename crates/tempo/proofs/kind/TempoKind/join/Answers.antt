@@ -1,4 +1,4 @@
-use Rattle.std.proofs.Common.{◌≡◌, ap, ◌∙◌, arith}
+use Rattle.std.proofs.Common.{ap, arith}
 use Rattle.tempo.specs.Lawfulness.{counted, same_beats}
 use Rattle.tempo.proofs.kind.TempoKind.join.Goals as goal
 

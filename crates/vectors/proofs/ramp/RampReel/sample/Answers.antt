@@ -1,4 +1,4 @@
-use Rattle.std.proofs.Common.{◌≡◌, ◌<◌, ◌≤◌, length, pos, Some, sym, ap, ◌∙◌, arith, w16}
+use Rattle.std.proofs.Common.{◌<◌, length, pos, Some, sym, ap, ◌∙◌, arith, w16}
 use Rattle.std.proofs.lemmas.List.FromFn.{length-map-range_with_len, get_or-map-range_with_len}
 use Rattle.std.proofs.lemmas.Option.{slice_get-get_or, slice_get_past}
 use Rattle.std.proofs.lemmas.Int.{to_z_pos}
