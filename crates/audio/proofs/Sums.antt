@@ -1,6 +1,6 @@
 -- Levels of samples that come one by one, or block by block.
 use Rattle.std.proofs.Common.{◌≡◌, ℕ, zero, suc, ◌+◌, ◌-◌, ◌<◌, ◌≤◌, min, List, [], ◌∷◌, ◌++◌, length, get_or, take, drop, ℤ, pos, sym, refl, ap, ◌∙◌, arith, length-drop, length-take, w16, SFits}
-use Rattle.std.specs.List.{AllByRecursion as All}
+use Rattle.std.specs.List.{AllByRecursion}
 use Rattle.std.proofs.ByRecursion.{All-take, All-drop}
 use Rattle.std.proofs.lemmas.List.{take_more}
 use Rattle.kinds.specs.Kinds.{total}
@@ -14,12 +14,12 @@ pub same_total : (a b xs : List ℤ) → total (audio a) xs ≡ total (audio b) 
 same_total a b [] = refl
 same_total a b (x ∷ xs) = ap (joined_levels (one_sample x)) (same_total a b xs)
 
-pub total_append : (a xs ys : List ℤ) → All (SFits w16) xs → All (SFits w16) ys → total (audio a) (xs ++ ys) ≡ joined_levels (total (audio a) xs) (total (audio a) ys)
+pub total_append : (a xs ys : List ℤ) → AllByRecursion (SFits w16) xs → AllByRecursion (SFits w16) ys → total (audio a) (xs ++ ys) ≡ joined_levels (total (audio a) xs) (total (audio a) ys)
 total_append a [] ys p q = let m = measured a ys q in sym (none_left _ m.low_fits m.high_fits)
 total_append a (x ∷ xs) ys p q = ap (joined_levels (one_sample x)) (total_append a xs ys p.1 q) ∙ sym (assoc _ _ _)
 
 -- one sample more
-pub total_more : (a xs : List ℤ) (i : ℕ) → i < length xs → All (SFits w16) xs → SFits w16 (get_or xs i (pos 0)) → total (audio a) (take (i + 1) xs) ≡ joined_levels (total (audio a) (take i xs)) (one_sample (get_or xs i (pos 0)))
+pub total_more : (a xs : List ℤ) (i : ℕ) → i < length xs → AllByRecursion (SFits w16) xs → SFits w16 (get_or xs i (pos 0)) → total (audio a) (take (i + 1) xs) ≡ joined_levels (total (audio a) (take i xs)) (one_sample (get_or xs i (pos 0)))
 total_more a xs i h p f =
     let x = get_or xs i (pos 0) in
     ap (total (audio a)) (take_more xs i (pos 0) h)
@@ -37,20 +37,20 @@ stretch_end samples start n k h =
     let there : n ≡ min k (length (drop start samples)) = rw length-drop h in
     ap (λ v. take v (drop start samples)) there ∙ take_min k (drop start samples)
 
-pub stretch_fits : (samples : List ℤ) (start n : ℕ) → All (SFits w16) samples → All (SFits w16) (stretch samples start n)
+pub stretch_fits : (samples : List ℤ) (start n : ℕ) → AllByRecursion (SFits w16) samples → AllByRecursion (SFits w16) (stretch samples start n)
 stretch_fits samples start n h = All-take (SFits w16) n (drop start samples) (All-drop (SFits w16) start samples h)
 
 -- the levels of a stretch: so many frames as there are
-pub stretch_frames : (samples : List ℤ) (start n : ℕ) → All (SFits w16) samples → (total (audio samples) (stretch samples start n)).frames ≡ min n (length samples - start)
+pub stretch_frames : (samples : List ℤ) (start n : ℕ) → AllByRecursion (SFits w16) samples → (total (audio samples) (stretch samples start n)).frames ≡ min n (length samples - start)
 stretch_frames samples start n h = (measured samples (stretch samples start n) (stretch_fits samples start n h)).frames ∙ simp (length-take, length-drop) (omega arith)
 
-pub stretch_clipped : (samples : List ℤ) (start n : ℕ) → All (SFits w16) samples → (total (audio samples) (stretch samples start n)).clipped ≤ min n (length samples - start)
+pub stretch_clipped : (samples : List ℤ) (start n : ℕ) → AllByRecursion (SFits w16) samples → (total (audio samples) (stretch samples start n)).clipped ≤ min n (length samples - start)
 stretch_clipped samples start n h =
     let m = measured samples (stretch samples start n) (stretch_fits samples start n h) in
     omega (arith, m.clipped, m.frames, stretch_frames samples start n h)
 
 -- one block more of a stretch
-pub block_more : (samples : List ℤ) (start done n : ℕ) → All (SFits w16) samples → joined_levels (total (audio samples) (stretch samples start done)) (total (audio samples) (stretch samples (start + done) n)) ≡ total (audio samples) (stretch samples start (done + n))
+pub block_more : (samples : List ℤ) (start done n : ℕ) → AllByRecursion (SFits w16) samples → joined_levels (total (audio samples) (stretch samples start done)) (total (audio samples) (stretch samples (start + done) n)) ≡ total (audio samples) (stretch samples start (done + n))
 block_more samples start done n h =
     sym (ap (total (audio samples)) (stretch_both samples start done n)
     ∙ total_append samples (stretch samples start done) (stretch samples (start + done) n) (stretch_fits samples start done h) (stretch_fits samples (start + done) n h))

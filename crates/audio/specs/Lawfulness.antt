@@ -4,7 +4,7 @@ use Rattle.std.proofs.Math.Path.{refl}
 use Rattle.std.proofs.Common.{sym, ap, ◌∙◌, arith, length-take, length-drop, ltb-false}
 use Rattle.std.specs.Int.{w16}
 use Rattle.std.proofs.lemmas.Bool.{eqb-false}
-use Rattle.std.specs.List.{AllByRecursion as All}
+use Rattle.std.specs.List.{AllByRecursion}
 use Rattle.std.proofs.ByRecursion.{All-take, All-drop, all-has, All-weaker}
 use Rattle.std.proofs.lemmas.List.{drop-drop, drop-take, take-take}
 use Rattle.faults.specs.declared.causes.Cause.{Cause}
@@ -60,7 +60,7 @@ module _ (samples : List ℤ) (b : Bounds samples) where
       let e = h.element in
       all-has (FitsSigned w16) (clip_samples samples e) a (All-take (FitsSigned w16) e.frames (drop e.start samples) (All-drop (FitsSigned w16) e.start samples b.narrow)) h.occurs
 
-  pub atoms_measured : (xs : List ℤ) → All (IsAtom (audio samples)) xs → Measured (length xs) (total (audio samples) xs)
+  pub atoms_measured : (xs : List ℤ) → AllByRecursion (IsAtom (audio samples)) xs → Measured (length xs) (total (audio samples) xs)
   atoms_measured xs h = measured samples xs (All-weaker (IsAtom (audio samples)) (FitsSigned w16) atom_fits xs h)
 
   pub audio_laws : Laws (audio samples)

@@ -2,7 +2,7 @@
 use Rattle.std.specs.Prelude.{◌≡◌, ℕ, ◌≤◌, List, [], ◌∷◌, length, ℤ, pos, negsuc, FitsSigned, ◌==◌, int_lt, refl}
 use Rattle.std.proofs.Common.{ap, ◌∙◌, arith, lit<}
 use Rattle.std.specs.Int.{int_max, int_min, w16}
-use Rattle.std.specs.List.{AllByRecursion as All}
+use Rattle.std.specs.List.{AllByRecursion}
 use Rattle.std.proofs.lemmas.Int.{ints, clamps}
 use Rattle.std.proofs.lemmas.Bool.{cond_both}
 use Rattle.kinds.specs.Kinds.{total}
@@ -33,7 +33,7 @@ min_fits a b p q = cond_both (int_lt b a) b a (FitsSigned w16) (λ _. q) (λ _. 
 max_fits : (a b : ℤ) → FitsSigned w16 a → FitsSigned w16 b → FitsSigned w16 (int_max a b)
 max_fits a b p q = cond_both (int_lt b a) a b (FitsSigned w16) (λ _. p) (λ _. q)
 
-pub measured : (samples xs : List ℤ) → All (FitsSigned w16) xs → Measured (length xs) (total (audio samples) xs)
+pub measured : (samples xs : List ℤ) → AllByRecursion (FitsSigned w16) xs → Measured (length xs) (total (audio samples) xs)
 unfolding joined_levels
 measured samples [] h =
     record { frames = refl; clipped = omega arith; low_fits = record { sfits = lit< tt }; high_fits = record { sfits = lit< tt } }

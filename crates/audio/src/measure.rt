@@ -1,6 +1,6 @@
 ghost use Rattle.std.specs.Prelude.{◌≡◌, ◌+◌, ◌^◌, ◌<◌, ◌≤◌, min, length, FitsSigned};
 ghost use Rattle.std.specs.Int.{w16};
-ghost use Rattle.std.specs.List.{AllByRecursion as All};
+ghost use Rattle.std.specs.List.{AllByRecursion};
 ghost use Rattle.reels.specs.Samples.{stretch};
 ghost use Rattle.kinds.specs.Kinds.{total};
 ghost use Rattle.audio.specs.Audio.{audio, count_at_end, one_sample, no_samples, joined_levels};
@@ -64,7 +64,7 @@ fn measure_block<R: Reel>(reel: &R, start: u32, frames: u32, scratch: &mut [i16;
 // The levels of a block of samples.
 fn levels_of(block: &[i16]) -> Levels
     requires few { length block.now ≤ 512 }
-    requires fit { All (FitsSigned w16) block.now }
+    requires fit { AllByRecursion (FitsSigned w16) block.now }
     ensures { result ≡ total (audio block.now) block.now }
 {
     let mut low = 32767i16;

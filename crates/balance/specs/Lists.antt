@@ -1,6 +1,6 @@
 -- Lists of elements divided at places: what trees are to do.
 use Rattle.std.specs.Prelude.{ℕ, ◌+◌, ◌-◌, ◌≤◌, cond, List, [], ◌∷◌, ◌++◌, Some, None, Option, ◌==◌, nat_lt}
-use Rattle.std.specs.List.{AllByRecursion as All}
+use Rattle.std.specs.List.{AllByRecursion}
 
 -- What is known of elements: the extent of one, which is the number of its atoms, and its parts. The part (d, m) has
 -- the m atoms from the atom d on.
@@ -14,7 +14,7 @@ extents k [] = 0
 extents k (e ∷ es) = k.extent e + extents k es
 
 abbrev pub Solid : {E : Type 0} → Shape E → List E → Type 0
-Solid k es = All (λ e. 1 ≤ k.extent e) es
+Solid k es = AllByRecursion (λ e. 1 ≤ k.extent e) es
 
 -- the element that holds the atom p of a list, and the offset of the atom in it
 pub record Held (E : Type 0) : Type 0 where

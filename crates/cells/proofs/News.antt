@@ -1,6 +1,6 @@
 -- A free cell becomes one over two trees.
 use Rattle.std.proofs.Common.{◌≡◌, ℕ, zero, suc, ◌+◌, ◌-◌, ◌^◌, ◌<◌, ◌≤◌, false, List, [], ◌∷◌, length, set, Some, sym, refl, ap, ◌∙◌, subst, inl, inr, ⊎_elim, arith, length-set}
-use Rattle.std.specs.List.{slice_get, AllByRecursion as All}
+use Rattle.std.specs.List.{slice_get, AllByRecursion}
 use Rattle.std.proofs.lemmas.Bool.{cases_eq}
 use Rattle.faults.specs.Limits.{limit}
 use Rattle.kinds.specs.Kinds.{Meaning, Laws, IsAtom, Joinable, total}
@@ -145,7 +145,7 @@ module _ {E A S : Type 0} (k : Meaning E A S) (laws : Laws k) (a : List (Cell E 
           owns = fits.owns;
           sums = s-is ∙ ap (λ x. total k (meant k x)) (sym tree_new);
           few = subst (λ x. length (meant k x) ≤ limit) (sym tree_new) (node_few k laws l e r left_told.atomic fits.lawful right_told.atomic fits.short);
-          atomic = subst (λ x. All (IsAtom k) (meant k x)) (sym tree_new) (node_atomic k laws l e r left_told.atomic fits.lawful right_told.atomic fits.short);
+          atomic = subst (λ x. AllByRecursion (IsAtom k) (meant k x)) (sym tree_new) (node_atomic k laws l e r left_told.atomic fits.lawful right_told.atomic fits.short);
         }
 
     taken_one : Takes a b 1

@@ -1,6 +1,6 @@
 -- The summary of a tree, joined from those of its parts.
 use Rattle.std.proofs.Common.{◌≡◌, ℕ, ◌+◌, ◌≤◌, List, [], ◌∷◌, ◌++◌, length, Some, None, Option, sym, refl, ap, ◌∙◌, subst, append_assoc, arith, length-append}
-use Rattle.std.specs.List.{slice_get, flat_map, AllByRecursion as All}
+use Rattle.std.specs.List.{slice_get, flat_map, AllByRecursion}
 use Rattle.std.proofs.ByRecursion.{All-append}
 use Rattle.faults.specs.Limits.{limit}
 use Rattle.kinds.specs.Kinds.{Meaning, Laws, Lawful, IsAtom, Joinable, total}
@@ -14,13 +14,13 @@ use Rattle.cells.proofs.Trees.{none_tree, meant_span}
 -- what a live link tells is the summary of its tree
 pub record Told {E A S : Type 0} (k : Meaning E A S) (cells : List (Cell E S)) (i : ℕ) : Type 0 where
   pub sums : sum_at k cells i ≡ total k (meant k (tree cells i))
-  pub atomic : All (IsAtom k) (meant k (tree cells i))
+  pub atomic : AllByRecursion (IsAtom k) (meant k (tree cells i))
 
 module _ {E A S : Type 0} (k : Meaning E A S) (cells : List (Cell E S)) (sound : Sound k cells) where
   told_at : (i : ℕ) (o : Option (Cell E S)) → slice_get cells i ≡ o → linked o → Told k cells i
   told_at i None e live =
       let t = none_tree cells i e in
-      record { sums = ap (summed k) e ∙ sym (ap (λ x. total k (meant k x)) t); atomic = subst (λ x. All (IsAtom k) (meant k x)) (sym t) tt }
+      record { sums = ap (summed k) e ∙ sym (ap (λ x. total k (meant k x)) t); atomic = subst (λ x. AllByRecursion (IsAtom k) (meant k x)) (sym t) tt }
   told_at i (Some c) e live = let good = sound i c e live in record { sums = ap (summed k) e ∙ good.sums; atomic = good.atomic }
 
   pub told : (i : ℕ) → Live cells i → Told k cells i
@@ -32,14 +32,14 @@ joined_append f (x ∷ xs) ys = ap (λ l. f x ++ l) (joined_append f xs ys) ∙ 
 
 -- an element e between the trees l and r
 module _ {E A S : Type 0} (k : Meaning E A S) (laws : Laws k) (l : Tree E) (e : E) (r : Tree E)
-    (al : All (IsAtom k) (meant k l)) (lawful : Lawful k e) (ar : All (IsAtom k) (meant k r)) (short : span (shape k) (node l e r) ≤ limit) where
+    (al : AllByRecursion (IsAtom k) (meant k l)) (lawful : Lawful k e) (ar : AllByRecursion (IsAtom k) (meant k r)) (short : span (shape k) (node l e r) ≤ limit) where
   few : length (meant k l) + length (k.atoms e) + length (meant k r) ≤ limit
   few = omega (arith, meant_span k l, meant_span k r)
 
-  ae : All (IsAtom k) (k.atoms e)
+  ae : AllByRecursion (IsAtom k) (k.atoms e)
   ae = atoms_atomic k e lawful
 
-  behind : All (IsAtom k) (k.atoms e ++ meant k r)
+  behind : AllByRecursion (IsAtom k) (k.atoms e ++ meant k r)
   behind = All-append (IsAtom k) (k.atoms e) (meant k r) ae ar
 
   behind_few : length (meant k l) + length (k.atoms e ++ meant k r) ≤ limit
@@ -60,8 +60,8 @@ module _ {E A S : Type 0} (k : Meaning E A S) (laws : Laws k) (l : Tree E) (e : 
   pub node_total : total k (meant k (node l e r)) ≡ k.plus (total k (meant k l)) (k.plus (total k (k.atoms e)) (total k (meant k r)))
   node_total = ap (total k) meant_node ∙ total_append k laws (meant k l) (k.atoms e ++ meant k r) al behind behind_few ∙ ap (k.plus (total k (meant k l))) behind_total
 
-  pub node_atomic : All (IsAtom k) (meant k (node l e r))
-  node_atomic = subst (All (IsAtom k)) (sym meant_node) (All-append (IsAtom k) (meant k l) (k.atoms e ++ meant k r) al behind)
+  pub node_atomic : AllByRecursion (IsAtom k) (meant k (node l e r))
+  node_atomic = subst (AllByRecursion (IsAtom k)) (sym meant_node) (All-append (IsAtom k) (meant k l) (k.atoms e ++ meant k r) al behind)
 
   pub node_few : length (meant k (node l e r)) ≤ limit
   node_few = omega (arith, meant_span k (node l e r))

@@ -1,6 +1,6 @@
 -- One cell is written: a free one is made, the references of one in use change, or one that nothing names is freed.
 use Rattle.std.proofs.Common.{◌≡◌, ℕ, zero, suc, ◌+◌, ◌<◌, ◌≤◌, Bool, true, false, ◌≢◌, List, [], ◌∷◌, length, set, Some, None, Option, sym, refl, ap, ◌∙◌, subst, ⊎_elim, arith}
-use Rattle.std.specs.List.{slice_get, AllByRecursion as All}
+use Rattle.std.specs.List.{slice_get, AllByRecursion}
 use Rattle.std.proofs.lemmas.Bool.{cases_eq}
 use Rattle.faults.specs.Limits.{limit}
 use Rattle.kinds.specs.Kinds.{Meaning, Lawful, IsAtom, total}
@@ -31,7 +31,7 @@ good_stays k a b j c d at same stays ll rl good =
       owns = sym same.own ∙ good.owns ∙ ap (λ e. total k (k.atoms e)) same.element;
       sums = sym same.summary ∙ good.sums ∙ ap (λ x. total k (meant k x)) t;
       few = subst (λ x. length (meant k x) ≤ limit) t good.few;
-      atomic = subst (λ x. All (IsAtom k) (meant k x)) t good.atomic;
+      atomic = subst (λ x. AllByRecursion (IsAtom k) (meant k x)) t good.atomic;
     }
 
 module _ {E A S : Type 0} (k : Meaning E A S) (a : List (Cell E S)) (i : ℕ) (c : Cell E S) (at : slice_get a i ≡ Some c) (d : Cell E S) where

@@ -1,6 +1,6 @@
 -- The tree under a cell, and what is true of every cell in use.
 use Rattle.std.specs.Prelude.{◌≡◌, ℕ, zero, suc, ◌+◌, ◌*◌, ◌<◌, ◌≤◌, Bool, true, false, List, length, Some, None, Option}
-use Rattle.std.specs.List.{slice_get, flat_map, AllByRecursion as All}
+use Rattle.std.specs.List.{slice_get, flat_map, AllByRecursion}
 use Rattle.faults.specs.Limits.{limit}
 use Rattle.kinds.specs.Kinds.{Meaning, Lawful, IsAtom, total}
 use Rattle.balance.specs.Trees.{Tree, leaf, node, elements, mirror, Δ}
@@ -88,7 +88,7 @@ module _ {E A S : Type 0} (k : Meaning E A S) where
     pub owns : c.own ≡ total k (k.atoms c.element)
     pub sums : c.summary ≡ total k (meant (tree cells i))
     pub few : length (meant (tree cells i)) ≤ limit
-    pub atomic : All (IsAtom k) (meant (tree cells i))
+    pub atomic : AllByRecursion (IsAtom k) (meant (tree cells i))
 
   abbrev pub Sound : List (Cell E S) → Type 0
   Sound cells = (i : ℕ) (c : Cell E S) → slice_get cells i ≡ Some c → 0 < c.refs → Good cells i c

@@ -1,6 +1,6 @@
 -- Putting in: a tree taken apart, what is put in behind its front, and its rest behind that.
 use Rattle.std.proofs.Common.{◌≡◌, ℕ, ◌+◌, ◌^◌, ◌<◌, ◌≤◌, false, List, [], ◌∷◌, ◌++◌, length, sym, ap, ◌∙◌, arith, length-append}
-use Rattle.std.specs.List.{AllByRecursion as All}
+use Rattle.std.specs.List.{AllByRecursion}
 use Rattle.faults.specs.Limits.{limit}
 use Rattle.flat.specs.Refusals.{element_limit}
 use Rattle.kinds.specs.Kinds.{Meaning, Laws, Lawful}
@@ -57,10 +57,10 @@ module _ {E A S : Type 0} (k : Meaning E A S) (laws : Laws k) (a : List (Cell E 
   N-balanced : Balanced N
   N-balanced = owned_balanced k a p owns.rest owns.arena new new_owned
 
-  T-lawful : All (Lawful k) (elements T)
+  T-lawful : AllByRecursion (Lawful k) (elements T)
   T-lawful = owned_lawful k a p owns.rest owns.arena root root_owned
 
-  N-lawful : All (Lawful k) (elements N)
+  N-lawful : AllByRecursion (Lawful k) (elements N)
   N-lawful = owned_lawful k a p owns.rest owns.arena new new_owned
 
   counts : count T + count N ≤ element_limit

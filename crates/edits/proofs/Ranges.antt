@@ -1,6 +1,6 @@
 -- A range of a tree: taken apart where it begins, and what lies behind that where it ends.
 use Rattle.std.proofs.Common.{◌≡◌, ℕ, ◌+◌, ◌^◌, ◌<◌, ◌≤◌, false, List, [], ◌∷◌, ◌++◌, length, sym, ap, ◌∙◌, subst, arith}
-use Rattle.std.specs.List.{AllByRecursion as All}
+use Rattle.std.specs.List.{AllByRecursion}
 use Rattle.faults.specs.Limits.{limit}
 use Rattle.flat.specs.Refusals.{element_limit}
 use Rattle.kinds.specs.Kinds.{Meaning, Laws, Lawful}
@@ -50,7 +50,7 @@ module _ {E A S : Type 0} (k : Meaning E A S) (laws : Laws k) (a : List (Cell E 
   T-balanced : Balanced T
   T-balanced = owned_balanced k a p owns.rest owns.arena root root_owned
 
-  T-lawful : All (Lawful k) (elements T)
+  T-lawful : AllByRecursion (Lawful k) (elements T)
   T-lawful = owned_lawful k a p owns.rest owns.arena root root_owned
 
   T-few : count T ≤ element_limit
@@ -67,7 +67,7 @@ module _ {E A S : Type 0} (k : Meaning E A S) (laws : Laws k) (a : List (Cell E 
 
   end_short : extents (shape k) (listed z.rest) ≤ extents (shape k) (listed s.rest)
   end_short =
-      let lawful = subst (All (Lawful k)) (sym (parted_divides (shape k) T from).aft) (back_lawful k laws from (elements T) T-lawful) in
+      let lawful = subst (AllByRecursion (Lawful k)) (sym (parted_divides (shape k) T from).aft) (back_lawful k laws from (elements T) T-lawful) in
       omega (arith, rest_extents k laws s.rest len lawful)
 
   copy_costs : parted_cost (shape k) T from + parted_rest_cost (shape k) s.rest len ≤ copy_takes

@@ -1,6 +1,6 @@
 -- The trees of owned roots: their sizes, also taken apart, and giving one back.
 use Rattle.std.proofs.Common.{◌≡◌, ℕ, ◌+◌, ◌-◌, ◌^◌, ◌≤◌, eqb, ltb, List, [], ◌∷◌, ◌++◌, length, Some, None, Option, sym, ap, ◌∙◌, subst, arith}
-use Rattle.std.specs.List.{AllByRecursion as All}
+use Rattle.std.specs.List.{AllByRecursion}
 use Rattle.faults.specs.Limits.{limit}
 use Rattle.kinds.specs.Kinds.{Meaning, Lawful}
 use Rattle.balance.specs.Trees.{Tree, elements, count, Balanced}
@@ -64,7 +64,7 @@ module _ {E A S : Type 0} (k : Meaning E A S) (a : List (Cell E S)) (p : Pool) (
   pub owned_balanced : Balanced (tree a root)
   owned_balanced = (known k a arena.sound root root_live).balanced
 
-  pub owned_lawful : All (Lawful k) (elements (tree a root))
+  pub owned_lawful : AllByRecursion (Lawful k) (elements (tree a root))
   owned_lawful = tree_lawful k a arena.sound root root_live
 
   pub owned_short : span (shape k) (tree a root) ≤ limit

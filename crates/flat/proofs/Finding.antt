@@ -1,6 +1,6 @@
 -- The place at which a tally is reached: there is one below the total, and no other.
 use Rattle.std.proofs.Common.{◌≡◌, ℕ, zero, suc, ◌+◌, ◌<◌, ◌≤◌, List, length, take, drop, sym, ap, ◌∙◌, inl, inr, add-one, arith, length-append, length-take}
-use Rattle.std.specs.List.{AllByRecursion as All}
+use Rattle.std.specs.List.{AllByRecursion}
 use Rattle.std.proofs.ByRecursion.{All-take, All-drop}
 use Rattle.std.proofs.lemmas.List.{take_all, take-take, take-append-drop}
 use Rattle.std.proofs.lemmas.Bool.{cases_lt, cases_order}
@@ -22,7 +22,7 @@ crossing f t (suc n) low high =
 
 module _ {E A S : Type 0} (k : Meaning E A S) (tally : S → ℕ) (laws : Laws k) (tallies : Tallies k tally) where
   -- the tally of atoms is that of the first p and that of the others, added
-  tally_split : (xs : List A) (p : ℕ) → All (IsAtom k) xs → length xs ≤ limit
+  tally_split : (xs : List A) (p : ℕ) → AllByRecursion (IsAtom k) xs → length xs ≤ limit
       → tally (total k xs) ≡ tally (total k (take p xs)) + tally (total k (drop p xs))
   tally_split xs p atomic few =
       let front = All-take (IsAtom k) p xs atomic in
@@ -34,15 +34,15 @@ module _ {E A S : Type 0} (k : Meaning E A S) (tally : S → ℕ) (laws : Laws k
       ∙ tallies.adds (total k (take p xs)) (total k (drop p xs)) (joinable k (take p xs) (drop p xs) front back both)
 
   -- more atoms have no smaller tally
-  tally_grows : (xs : List A) (p q : ℕ) → All (IsAtom k) xs → length xs ≤ limit → p ≤ q
+  tally_grows : (xs : List A) (p q : ℕ) → AllByRecursion (IsAtom k) xs → length xs ≤ limit → p ≤ q
       → tally (total k (take p xs)) ≤ tally (total k (take q xs))
   tally_grows xs p q atomic few h =
       let fewer : length (take q xs) ≤ limit = simp length-take (omega arith) in
       let front : take p (take q xs) ≡ take p xs = take-take p q xs h in
       omega (arith, tally_split (take q xs) p (All-take (IsAtom k) q xs atomic) fewer, ap (λ l. tally (total k l)) front)
 
-  module _ (es : List E) (lawful : All (Lawful k) es) (few : extent_of k es ≤ limit) where
-    atomic : All (IsAtom k) (atoms_of k es)
+  module _ (es : List E) (lawful : AllByRecursion (Lawful k) es) (few : extent_of k es ≤ limit) where
+    atomic : AllByRecursion (IsAtom k) (atoms_of k es)
     atomic = joined_atomic k es lawful
 
     few_atoms : length (atoms_of k es) ≤ limit

@@ -1,7 +1,7 @@
 -- Held versions: where a place is free, and since when a version is held there.
 use Rattle.std.proofs.Common.{◌≡◌, ℕ, zero, suc, ◌<◌, Bool, true, false, eqb, ◌⊎◌, ◌↔◌, List, [], ◌∷◌, ◌++◌, length, get_or, set, replicate, is_some, Some, None, count_by, filter, Option, sym, refl, ap, ◌∙◌, subst, inl, inr, arith, length-set, get_or-set_other, get_or-set_same}
 use mathlib.Core.Logic.Iff
-use Rattle.std.specs.List.{AllByRecursion as All}
+use Rattle.std.specs.List.{AllByRecursion}
 use Rattle.std.proofs.lemmas.List.Sums.{length-filter, count_by-le-length}
 use Rattle.std.proofs.lemmas.Bool.{both_ways, eqb-true, eq-eqb, cond-true, cond_both}
 use Rattle.faults.specs.declared.session.SessionFault.{SessionFault}
@@ -277,7 +277,7 @@ module _ {E A S : Type 0} (k : Meaning E A S) where
   possible_front (t ∷ xs) ys s possible = (possible.0, possible_front xs ys (step k s t).0 possible.1)
 
   abbrev Unreleased : ℕ → ℕ → List Turn → Type 0
-  Unreleased mark place ts = All (λ t. t.call ≡ release mark place → ⊥) ts
+  Unreleased mark place ts = AllByRecursion (λ t. t.call ≡ release mark place → ⊥) ts
 
   version_stays : (ts : List Turn) (s : State E) (place : ℕ) (es : List E) → AllPossible k s ts → Unreleased s.mark place ts
       → get_or s.held place None ≡ Some es → get_or (run k s ts).held place None ≡ Some es

@@ -1,6 +1,6 @@
 -- Refusals: conditions listed by ascending numbers tell the smallest, and a refused call changes nothing.
 use Rattle.std.proofs.Common.{◌≡◌, ℕ, ◌≤◌, Bool, true, false, List, [], ◌∷◌, ◌++◌, Some, None, Ok, Err, Option, Result, sym, refl, ap, arith}
-use Rattle.std.specs.List.{ContainsAt as Has, AllByRecursion as All}
+use Rattle.std.specs.List.{ContainsAt, AllByRecursion}
 use Rattle.std.proofs.ByRecursion.{all-has, has_append_right, All-weaker}
 use Rattle.std.proofs.lemmas.Bool.{both_ways}
 use Rattle.faults.specs.Numbers.{session_number}
@@ -32,8 +32,8 @@ record Numbered (n : ℕ) (o : Option SessionFault) : Type 0 where
 
 -- no fault has a number below n, and none one below the first
 record Ascending (n : ℕ) (faults : List (Option SessionFault)) : Type 0 where
-  bounded : All (AtLeast n) faults
-  least : (f : SessionFault) → first_of faults ≡ Some f → All (AtLeast (session_number f)) faults
+  bounded : AllByRecursion (AtLeast n) faults
+  least : (f : SessionFault) → first_of faults ≡ Some f → AllByRecursion (AtLeast (session_number f)) faults
 
 pub never_some : {X : Type 0} {x : X} → None ≡ Some x → ⊥
 never_some {X} {x} e = let z : ◌≡◌ {A = ℕ} 0 1 = cc in omega arith
@@ -44,7 +44,7 @@ same_some x y e = cc
 none_least : (n : ℕ) → AtLeast n None
 none_least n g e = absurd (never_some e)
 
-all_lower : (m n : ℕ) (faults : List (Option SessionFault)) → m ≤ n → All (AtLeast n) faults → All (AtLeast m) faults
+all_lower : (m n : ℕ) (faults : List (Option SessionFault)) → m ≤ n → AllByRecursion (AtLeast n) faults → AllByRecursion (AtLeast m) faults
 all_lower m n faults h a = All-weaker (AtLeast n) (AtLeast m) (λ o l g e. omega (arith, l g e)) faults a
 
 ascending_none : (n : ℕ) → Ascending n []
@@ -85,12 +85,12 @@ numbered_held : {E : Type 0} (o : Option (List E)) → Numbered 1 (not_held o)
 numbered_held None = record { told = λ g e. ap session_number (sym (same_some NotHeld g e)) }
 numbered_held (Some es) = record { told = λ g e. absurd (never_some e) }
 
-first_applies : (faults : List (Option SessionFault)) (f : SessionFault) → first_of faults ≡ Some f → Has faults (Some f)
+first_applies : (faults : List (Option SessionFault)) (f : SessionFault) → first_of faults ≡ Some f → ContainsAt faults (Some f)
 first_applies [] f e = absurd (never_some e)
 first_applies (None ∷ rest) f e = has_append_right (None ∷ []) rest (Some f) (first_applies rest f e)
 first_applies (Some g ∷ rest) f e = (0, omega arith, λ d. e)
 
-none_applies : (faults : List (Option SessionFault)) → first_of faults ≡ None → All (λ o. o ≡ None) faults
+none_applies : (faults : List (Option SessionFault)) → first_of faults ≡ None → AllByRecursion (λ o. o ≡ None) faults
 none_applies [] e = tt
 none_applies (None ∷ rest) e = (refl, none_applies rest e)
 none_applies (Some f ∷ rest) e = absurd (never_some (sym e))

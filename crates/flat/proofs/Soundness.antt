@@ -1,7 +1,7 @@
 -- Every list that a session keeps is within the limits, and each of its elements is lawful: each call keeps
 -- it so.
 use Rattle.std.proofs.Common.{◌≡◌, ℕ, zero, suc, ◌+◌, ◌≤◌, List, [], ◌∷◌, length, set, Some, None, Option, Result, sym, subst, arith}
-use Rattle.std.specs.List.{AllByRecursion as All}
+use Rattle.std.specs.List.{AllByRecursion}
 use Rattle.std.proofs.ByRecursion.{All-append, All-take}
 use Rattle.faults.specs.Limits.{limit}
 use Rattle.faults.specs.declared.causes.Cause.{Cause}
@@ -16,21 +16,21 @@ use Rattle.flat.specs.Promises.{Sound, RunSound, held_lists, kept_lists}
 use Rattle.flat.proofs.Acceptance.{insert_none, remove_none, copy_none, paste_none}
 use Rattle.flat.proofs.Refusals.{step_cases}
 
-kept_all : {E : Type 0} (P : List E → Type 0) (versions : List (List E)) → All P versions → All P (kept versions)
+kept_all : {E : Type 0} (P : List E → Type 0) (versions : List (List E)) → AllByRecursion P versions → AllByRecursion P (kept versions)
 unfolding kept
 kept_all P versions a = All-take P history_limit versions a
 
 -- a place alone changes, to a version with the property or to none
-held_none : {E : Type 0} (P : List E → Type 0) (held : List (Option (List E))) (place : ℕ) → All P (held_lists held)
-    → All P (held_lists (set held place None))
+held_none : {E : Type 0} (P : List E → Type 0) (held : List (Option (List E))) (place : ℕ) → AllByRecursion P (held_lists held)
+    → AllByRecursion P (held_lists (set held place None))
 held_none P [] place a = tt
 held_none P (None ∷ rest) zero a = a
 held_none P (Some es ∷ rest) zero a = a.1
 held_none P (None ∷ rest) (suc place) a = held_none P rest place a
 held_none P (Some es ∷ rest) (suc place) a = (a.0, held_none P rest place a.1)
 
-held_some : {E : Type 0} (P : List E → Type 0) (held : List (Option (List E))) (place : ℕ) (new : List E) → P new → All P (held_lists held)
-    → All P (held_lists (set held place (Some new)))
+held_some : {E : Type 0} (P : List E → Type 0) (held : List (Option (List E))) (place : ℕ) (new : List E) → P new → AllByRecursion P (held_lists held)
+    → AllByRecursion P (held_lists (set held place (Some new)))
 held_some P [] place new p a = tt
 held_some P (None ∷ rest) zero new p a = (p, a)
 held_some P (Some es ∷ rest) zero new p a = (p, a.1)
@@ -42,11 +42,11 @@ module _ {E A S : Type 0} (k : Meaning E A S) where
   record AllSound (s : State E) : Type 0 where
     present : Sound k s.present
     clipboard : Sound k s.clipboard
-    past : All (Sound k) s.past
-    future : All (Sound k) s.future
-    held : All (Sound k) (held_lists s.held)
+    past : AllByRecursion (Sound k) s.past
+    future : AllByRecursion (Sound k) s.future
+    held : AllByRecursion (Sound k) (held_lists s.held)
 
-  sound_lists : (s : State E) → AllSound s → All (Sound k) (kept_lists s)
+  sound_lists : (s : State E) → AllSound s → AllByRecursion (Sound k) (kept_lists s)
   sound_lists s a = (
     a.present,
     (a.clipboard, All-append (Sound k) s.past _ a.past (All-append (Sound k) s.future _ a.future a.held)),
@@ -68,7 +68,7 @@ module _ {E A S : Type 0} (k : Meaning E A S) where
         held = a.held;
       }
 
-  sound_undone : (s : State E) (past : List (List E)) → All (Sound k) past → AllSound s → AllSound (undone_to s past)
+  sound_undone : (s : State E) (past : List (List E)) → AllByRecursion (Sound k) past → AllSound s → AllSound (undone_to s past)
   sound_undone s [] before a = a
   sound_undone s (newest ∷ older) before a =
       record {
@@ -79,7 +79,7 @@ module _ {E A S : Type 0} (k : Meaning E A S) where
         held = a.held;
       }
 
-  sound_redone : (s : State E) (future : List (List E)) → All (Sound k) future → AllSound s → AllSound (redone_to s future)
+  sound_redone : (s : State E) (future : List (List E)) → AllByRecursion (Sound k) future → AllSound s → AllSound (redone_to s future)
   sound_redone s [] ahead a = a
   sound_redone s (next ∷ later) ahead a =
       record {
@@ -91,7 +91,7 @@ module _ {E A S : Type 0} (k : Meaning E A S) where
       }
 
   module _ (laws : Laws k) where
-    sound_put : (es new : List E) (p : ℕ) → Sound k es → All (Lawful k) new → extent_of k es + extent_of k new ≤ limit
+    sound_put : (es new : List E) (p : ℕ) → Sound k es → AllByRecursion (Lawful k) new → extent_of k es + extent_of k new ≤ limit
         → length (put_at k p new es) ≤ element_limit → Sound k (put_at k p new es)
     sound_put es new p sound lawful short few =
         record {
@@ -121,7 +121,7 @@ module _ {E A S : Type 0} (k : Meaning E A S) where
     sound_clipped s es sound a =
         record { present = a.present; clipboard = sound; past = a.past; future = a.future; held = a.held }
 
-    sound_placed : (s : State E) (place : ℕ) (v : Option (List E)) → All (Sound k) (held_lists (set s.held place v)) → AllSound s
+    sound_placed : (s : State E) (place : ℕ) (v : Option (List E)) → AllByRecursion (Sound k) (held_lists (set s.held place v)) → AllSound s
         → AllSound (with_place s place v)
     sound_placed s place v held a =
         record { present = a.present; clipboard = a.clipboard; past = a.past; future = a.future; held = held }

@@ -1,6 +1,6 @@
 -- What the flat sequence keeps, as statements: of places, questions, refusals, acceptance and runs.
 use Rattle.std.specs.Prelude.{◌≡◌, ℕ, ◌+◌, ◌-◌, ◌*◌, ◌<◌, ◌≤◌, Bool, false, ◌↔◌, List, [], ◌∷◌, ◌++◌, length, take, drop, ℤ, Some, None, Ok, Option, ◌≢◌, slice_index_or}
-use Rattle.std.specs.List.{ContainsAt as Has, AllByRecursion as All, slice_get}
+use Rattle.std.specs.List.{ContainsAt, AllByRecursion, slice_get}
 use Rattle.faults.specs.Limits.{limit}
 use Rattle.faults.specs.Numbers.{session_number}
 use Rattle.faults.specs.declared.session.SessionFault.{SessionFault}
@@ -17,9 +17,9 @@ use Rattle.flat.specs.Force.{Log, no_edits, makes, logged, undoable, acceptances
 
 -- Of the faults that apply, the first is the one with the smallest number; it is none only where none applies.
 pub record Smallest (faults : List (Option SessionFault)) : Type 0 where
-  pub applies : (f : SessionFault) → first_of faults ≡ Some f → Has faults (Some f)
-  pub least : (f g : SessionFault) → first_of faults ≡ Some f → Has faults (Some g) → session_number f ≤ session_number g
-  pub none : first_of faults ≡ None → (g : SessionFault) → Has faults (Some g) → ⊥
+  pub applies : (f : SessionFault) → first_of faults ≡ Some f → ContainsAt faults (Some f)
+  pub least : (f g : SessionFault) → first_of faults ≡ Some f → ContainsAt faults (Some g) → session_number f ≤ session_number g
+  pub none : first_of faults ≡ None → (g : SessionFault) → ContainsAt faults (Some g) → ⊥
 
 -- a session starts with cells within the limits, and with no others
 abbrev pub StartAccepted : Type 0
@@ -44,7 +44,7 @@ module _ {E A S : Type 0} (k : Meaning E A S) where
 
   -- at a place between two elements nothing is divided
   abbrev pub DividesNothing : Type 0
-  DividesNothing = Laws k → (xs ys : List E) → All (Lawful k) ys
+  DividesNothing = Laws k → (xs ys : List E) → AllByRecursion (Lawful k) ys
       → (before k (extent_of k xs) (xs ++ ys) ≡ xs) × (after k (extent_of k xs) (xs ++ ys) ≡ ys)
 
   -- inside an element, at offset d, it is divided into its parts (0, d) and (d, extent - d)
@@ -55,7 +55,7 @@ module _ {E A S : Type 0} (k : Meaning E A S) where
 
   -- before the place p lie the first p atoms and after it the others, so dividing changes no atom
   abbrev pub DividesAtoms : Type 0
-  DividesAtoms = Laws k → (es : List E) (p : ℕ) → All (Lawful k) es
+  DividesAtoms = Laws k → (es : List E) (p : ℕ) → AllByRecursion (Lawful k) es
       → (atoms_of k (before k p es) ≡ take p (atoms_of k es))
       × (atoms_of k (after k p es) ≡ drop p (atoms_of k es))
       × (atoms_of k (divided k p es) ≡ atoms_of k es)
@@ -63,25 +63,25 @@ module _ {E A S : Type 0} (k : Meaning E A S) where
   -- A range is what lies between from and from + len, once the list is divided at from and then at
   -- from + len; what is left is what lies before from and after from + len.
   abbrev pub DividesTwice : Type 0
-  DividesTwice = Laws k → (es : List E) (from len : ℕ) → All (Lawful k) es → from + len ≤ extent_of k es
+  DividesTwice = Laws k → (es : List E) (from len : ℕ) → AllByRecursion (Lawful k) es → from + len ≤ extent_of k es
       → let twice : List E = divided k (from + len) (divided k from es) in
       (taken k from len es ≡ after k from (before k (from + len) twice))
       × (without k from len es ≡ before k from twice ++ after k (from + len) twice)
 
   -- elements put at a place put their atoms there
   abbrev pub PutsAtoms : Type 0
-  PutsAtoms = Laws k → (es new : List E) (p : ℕ) → All (Lawful k) es
+  PutsAtoms = Laws k → (es new : List E) (p : ℕ) → AllByRecursion (Lawful k) es
       → atoms_of k (put_at k p new es) ≡ take p (atoms_of k es) ++ (atoms_of k new ++ drop p (atoms_of k es))
 
   -- a range means the atoms from its start on, and what is left those before it and behind it
   abbrev pub TakesAtoms : Type 0
-  TakesAtoms = Laws k → (es : List E) (from len : ℕ) → All (Lawful k) es
+  TakesAtoms = Laws k → (es : List E) (from len : ℕ) → AllByRecursion (Lawful k) es
       → (atoms_of k (taken k from len es) ≡ atoms_in k from len es)
       × (atoms_of k (without k from len es) ≡ take from (atoms_of k es) ++ drop (from + len) (atoms_of k es))
 
   -- a paste of a cut at its place gives the same atoms back
   abbrev pub PasteOfCut : Type 0
-  PasteOfCut = Laws k → (es : List E) (from len : ℕ) → All (Lawful k) es → from + len ≤ extent_of k es
+  PasteOfCut = Laws k → (es : List E) (from len : ℕ) → AllByRecursion (Lawful k) es → from + len ≤ extent_of k es
       → atoms_of k (put_at k from (taken k from len es) (without k from len es)) ≡ atoms_of k es
 
   -- ## Questions
@@ -98,15 +98,15 @@ module _ {E A S : Type 0} (k : Meaning E A S) where
 
   -- a tally below the total is found at one place, and that is the place of an atom; no other is found
   abbrev pub FindSome : Type 0
-  FindSome = (tally : S → ℕ) → Laws k → Tallies k tally → (es : List E) (t : ℕ) → All (Lawful k) es → extent_of k es ≤ limit
+  FindSome = (tally : S → ℕ) → Laws k → Tallies k tally → (es : List E) (t : ℕ) → AllByRecursion (Lawful k) es → extent_of k es ≤ limit
       → t < tally (total k (atoms_of k es)) → (p : ℕ) × (p < extent_of k es) × Finds k tally es t p
 
   abbrev pub FindOne : Type 0
-  FindOne = (tally : S → ℕ) → Laws k → Tallies k tally → (es : List E) (t p q : ℕ) → All (Lawful k) es → extent_of k es ≤ limit
+  FindOne = (tally : S → ℕ) → Laws k → Tallies k tally → (es : List E) (t p q : ℕ) → AllByRecursion (Lawful k) es → extent_of k es ≤ limit
       → Finds k tally es t p → Finds k tally es t q → p ≡ q
 
   abbrev pub FindNone : Type 0
-  FindNone = (tally : S → ℕ) → Laws k → Tallies k tally → (es : List E) (t p : ℕ) → All (Lawful k) es → extent_of k es ≤ limit
+  FindNone = (tally : S → ℕ) → Laws k → Tallies k tally → (es : List E) (t p : ℕ) → AllByRecursion (Lawful k) es → extent_of k es ≤ limit
       → Finds k tally es t p → t < tally (total k (atoms_of k es))
 
   -- ## Refusals
@@ -206,7 +206,7 @@ module _ {E A S : Type 0} (k : Meaning E A S) where
   -- a reel has every sample that a range's elements need exactly where none of them ends past its last one
   abbrev pub LacksNone : Type 0
   LacksNone = (samples : List ℤ) (es : List E)
-      → (lacks k samples es ≡ false) ↔ All (λ e. k.first e + k.second e ≤ length samples) es
+      → (lacks k samples es ≡ false) ↔ AllByRecursion (λ e. k.first e + k.second e ≤ length samples) es
 
   -- a hold that is not refused finds a place
   abbrev pub HoldFinds : Type 0
@@ -252,12 +252,12 @@ module _ {E A S : Type 0} (k : Meaning E A S) where
 
   -- a list within the limits, each element of which is lawful
   pub record Sound (es : List E) : Type 0 where
-    pub lawful : All (Lawful k) es
+    pub lawful : AllByRecursion (Lawful k) es
     pub extent : extent_of k es ≤ limit
     pub elements : length es ≤ element_limit
 
   abbrev pub RunSound : Type 0
-  RunSound = Laws k → (mark : ℕ) (ts : List Turn) → AllPossible k (fresh mark) ts → All Sound (kept_lists (state_after mark ts))
+  RunSound = Laws k → (mark : ℕ) (ts : List Turn) → AllPossible k (fresh mark) ts → AllByRecursion Sound (kept_lists (state_after mark ts))
 
   -- the version held at a place: a hold gave it when this list was present, and no release of it came since
   pub record HeldSince (mark : ℕ) (ts : List Turn) (place : ℕ) (es : List E) : Type 0 where
@@ -267,7 +267,7 @@ module _ {E A S : Type 0} (k : Meaning E A S) where
     pub whole : ts ≡ earlier ++ (turn ∷ later)
     pub given : (step k (state_after mark earlier) turn).1 ≡ gave mark place
     pub list : es ≡ (state_after mark earlier).present
-    pub unreleased : All (λ t. t.call ≢ release mark place) later
+    pub unreleased : AllByRecursion (λ t. t.call ≢ release mark place) later
 
   abbrev pub RunHeld : Type 0
   RunHeld = (mark : ℕ) (ts : List Turn) → AllPossible k (fresh mark) ts → (m place : ℕ) (es : List E)
@@ -280,7 +280,7 @@ module _ {E A S : Type 0} (k : Meaning E A S) where
       → AllPossible k (fresh mark) (earlier ++ (one ∷ (between ++ (other ∷ later))))
       → (step k (state_after mark earlier) one).1 ≡ gave mark place
       → (step k (state_after mark (earlier ++ (one ∷ between))) other).1 ≡ gave mark place
-      → All (λ t. t.call ≢ release mark place) between → ⊥
+      → AllByRecursion (λ t. t.call ≢ release mark place) between → ⊥
 
   -- a slip's release is accepted where its version is held, and a hold where some place is free
   abbrev pub RunRelease : Type 0

@@ -1,7 +1,7 @@
 -- What lies before a place and after it: as lists of elements, and as the atoms that they mean.
 use Rattle.std.proofs.Common.{◌≡◌, ℕ, ◌+◌, ◌-◌, ◌<◌, ◌≤◌, eqb, leb, List, [], ◌∷◌, ◌++◌, length, take, drop, sym, refl, ap, ◌∙◌, append_assoc, append-nil, zero-add, arith, length-append, length-drop, length-take, take_all}
 use lib.Seq.{take-append-le, drop-append-le, take-append-add, drop-append-add}
-use Rattle.std.specs.List.{AllByRecursion as All}
+use Rattle.std.specs.List.{AllByRecursion}
 use Rattle.std.proofs.ByRecursion.{All-append}
 use Rattle.std.proofs.lemmas.List.{drop_all, drop-drop, take_at, drop_at, take-append-drop}
 use Rattle.std.proofs.lemmas.Bool.{leb-true, leb-false, eqb-true, eqb-false, le-leb, lt-leb, ne_eqb, cond-true, cond-false, cond_both}
@@ -120,18 +120,18 @@ module _ {E A S : Type 0} (k : Meaning E A S) where
   back_within e p h = record { some = omega arith; inside = omega arith }
 
   module _ (laws : Laws k) where
-    before_none : (es : List E) → All (Lawful k) es → before k 0 es ≡ []
+    before_none : (es : List E) → AllByRecursion (Lawful k) es → before k 0 es ≡ []
     unfolding before
     before_none [] l = refl
     before_none (e ∷ es) l = before_start e es (laws.some e l.0)
 
-    after_none : (es : List E) → All (Lawful k) es → after k 0 es ≡ es
+    after_none : (es : List E) → AllByRecursion (Lawful k) es → after k 0 es ≡ es
     unfolding after
     after_none [] l = refl
     after_none (e ∷ es) l = after_start e es (laws.some e l.0)
 
     -- at a place between two elements nothing is divided
-    pub divides_nothing : (xs ys : List E) (p : ℕ) → extent_of k xs ≡ p → All (Lawful k) ys
+    pub divides_nothing : (xs ys : List E) (p : ℕ) → extent_of k xs ≡ p → AllByRecursion (Lawful k) ys
         → (before k p (xs ++ ys) ≡ xs) × (after k p (xs ++ ys) ≡ ys)
     divides_nothing xs ys p h l =
         let here : p ≡ extent_of k xs + 0 = omega arith in (
@@ -139,26 +139,26 @@ module _ {E A S : Type 0} (k : Meaning E A S) where
           ap (λ (n : ℕ). after k n (xs ++ ys)) here ∙ after_skip xs ys 0 ∙ after_none ys l,
         )
 
-    pub before_lawful : (es : List E) (p : ℕ) → All (Lawful k) es → All (Lawful k) (before k p es)
+    pub before_lawful : (es : List E) (p : ℕ) → AllByRecursion (Lawful k) es → AllByRecursion (Lawful k) (before k p es)
     unfolding before
     before_lawful [] p l = tt
     before_lawful (e ∷ es) p l =
-        before_cases (All (Lawful k)) e es p
+        before_cases (AllByRecursion (Lawful k)) e es p
         (λ h. (l.0, before_lawful es (p - extent k e) l.1))
         (λ z. tt)
         (λ some h. (part_lawful k laws e 0 p l.0 (front_within e p some h), tt))
 
-    pub after_lawful : (es : List E) (p : ℕ) → All (Lawful k) es → All (Lawful k) (after k p es)
+    pub after_lawful : (es : List E) (p : ℕ) → AllByRecursion (Lawful k) es → AllByRecursion (Lawful k) (after k p es)
     unfolding after
     after_lawful [] p l = tt
     after_lawful (e ∷ es) p l =
-        after_cases (All (Lawful k)) e es p
+        after_cases (AllByRecursion (Lawful k)) e es p
         (λ h. after_lawful es (p - extent k e) l.1)
         (λ z. l)
         (λ some h. (part_lawful k laws e p (extent k e - p) l.0 (back_within e p h), l.1))
 
     -- before the place p lie the first p atoms
-    pub before_atoms : (es : List E) (p : ℕ) → All (Lawful k) es → atoms_of k (before k p es) ≡ take p (atoms_of k es)
+    pub before_atoms : (es : List E) (p : ℕ) → AllByRecursion (Lawful k) es → atoms_of k (before k p es) ≡ take p (atoms_of k es)
     unfolding before
     before_atoms [] p l = sym (take_all p [] (omega arith))
     before_atoms (e ∷ es) p l =
@@ -175,7 +175,7 @@ module _ {E A S : Type 0} (k : Meaning E A S) where
         ∙ sym (take-append-le p own rest (omega arith)))
 
     -- and after it the others
-    pub after_atoms : (es : List E) (p : ℕ) → All (Lawful k) es → atoms_of k (after k p es) ≡ drop p (atoms_of k es)
+    pub after_atoms : (es : List E) (p : ℕ) → AllByRecursion (Lawful k) es → atoms_of k (after k p es) ≡ drop p (atoms_of k es)
     unfolding after
     after_atoms [] p l = sym (drop_all p [] (omega arith))
     after_atoms (e ∷ es) p l =
@@ -192,16 +192,16 @@ module _ {E A S : Type 0} (k : Meaning E A S) where
         ∙ take_all (extent k e - p) (drop p own) left)
         ∙ sym (drop-append-le p own rest (omega arith)))
 
-    pub divided_atoms : (es : List E) (p : ℕ) → All (Lawful k) es → atoms_of k (divided k p es) ≡ atoms_of k es
+    pub divided_atoms : (es : List E) (p : ℕ) → AllByRecursion (Lawful k) es → atoms_of k (divided k p es) ≡ atoms_of k es
     divided_atoms es p l =
         atoms_append (before k p es) (after k p es)
         ∙ simp (before_atoms es p l, after_atoms es p l) (take-append-drop p (atoms_of k es))
 
-    pub before_extent : (es : List E) (p : ℕ) → All (Lawful k) es → p ≤ extent_of k es → extent_of k (before k p es) ≡ p
+    pub before_extent : (es : List E) (p : ℕ) → AllByRecursion (Lawful k) es → p ≤ extent_of k es → extent_of k (before k p es) ≡ p
     before_extent es p l h =
         extent_counts (before k p es) ∙ ap length (before_atoms es p l) ∙ simp length-take (omega (arith, extent_counts es))
 
-    pub after_extent : (es : List E) (p : ℕ) → All (Lawful k) es → extent_of k (after k p es) ≡ extent_of k es - p
+    pub after_extent : (es : List E) (p : ℕ) → AllByRecursion (Lawful k) es → extent_of k (after k p es) ≡ extent_of k es - p
     after_extent es p l =
         extent_counts (after k p es) ∙ ap length (after_atoms es p l) ∙ simp length-drop (omega (arith, extent_counts es))
 
@@ -209,7 +209,7 @@ module _ {E A S : Type 0} (k : Meaning E A S) where
 
     -- The three parts of a list around a range: joined they are the list divided at both its ends, and
     -- at those ends they come apart again.
-    pub divides_twice : (es : List E) (from len : ℕ) → All (Lawful k) es → from + len ≤ extent_of k es
+    pub divides_twice : (es : List E) (from len : ℕ) → AllByRecursion (Lawful k) es → from + len ≤ extent_of k es
         → let twice : List E = divided k (from + len) (divided k from es) in
         (taken k from len es ≡ after k from (before k (from + len) twice))
         × (without k from len es ≡ before k from twice ++ after k (from + len) twice)
@@ -239,56 +239,56 @@ module _ {E A S : Type 0} (k : Meaning E A S) where
         (sym (ap (after k from) both_again ∙ range-alone.1), sym (simp (front_again, end_again)))
 
     -- elements put at a place put their atoms there
-    pub puts_atoms : (es new : List E) (p : ℕ) → All (Lawful k) es
+    pub puts_atoms : (es new : List E) (p : ℕ) → AllByRecursion (Lawful k) es
         → atoms_of k (put_at k p new es) ≡ take p (atoms_of k es) ++ (atoms_of k new ++ drop p (atoms_of k es))
     unfolding put_at
     puts_atoms es new p l =
         atoms_append (before k p es) (new ++ after k p es)
         ∙ simp (atoms_append new (after k p es), before_atoms es p l, after_atoms es p l)
 
-    pub taken_atoms : (es : List E) (from len : ℕ) → All (Lawful k) es
+    pub taken_atoms : (es : List E) (from len : ℕ) → AllByRecursion (Lawful k) es
         → atoms_of k (taken k from len es) ≡ take len (drop from (atoms_of k es))
     unfolding taken
     taken_atoms es from len l =
         before_atoms (after k from es) len (after_lawful es from l) ∙ ap (take len) (after_atoms es from l)
 
-    pub without_atoms : (es : List E) (from len : ℕ) → All (Lawful k) es
+    pub without_atoms : (es : List E) (from len : ℕ) → AllByRecursion (Lawful k) es
         → atoms_of k (without k from len es) ≡ take from (atoms_of k es) ++ drop (from + len) (atoms_of k es)
     unfolding without
     without_atoms es from len l =
         atoms_append (before k from es) (after k len (after k from es))
         ∙ simp (before_atoms es from l, after_atoms (after k from es) len (after_lawful es from l), after_atoms es from l, drop-drop)
 
-    pub put_lawful : (es new : List E) (p : ℕ) → All (Lawful k) es → All (Lawful k) new → All (Lawful k) (put_at k p new es)
+    pub put_lawful : (es new : List E) (p : ℕ) → AllByRecursion (Lawful k) es → AllByRecursion (Lawful k) new → AllByRecursion (Lawful k) (put_at k p new es)
     unfolding put_at
     put_lawful es new p l n =
         All-append (Lawful k) (before k p es) (new ++ after k p es) (before_lawful es p l)
         (All-append (Lawful k) new (after k p es) n (after_lawful es p l))
 
-    pub taken_lawful : (es : List E) (from len : ℕ) → All (Lawful k) es → All (Lawful k) (taken k from len es)
+    pub taken_lawful : (es : List E) (from len : ℕ) → AllByRecursion (Lawful k) es → AllByRecursion (Lawful k) (taken k from len es)
     unfolding taken
     taken_lawful es from len l = before_lawful (after k from es) len (after_lawful es from l)
 
-    pub without_lawful : (es : List E) (from len : ℕ) → All (Lawful k) es → All (Lawful k) (without k from len es)
+    pub without_lawful : (es : List E) (from len : ℕ) → AllByRecursion (Lawful k) es → AllByRecursion (Lawful k) (without k from len es)
     unfolding without
     without_lawful es from len l =
         All-append (Lawful k) (before k from es) (after k len (after k from es)) (before_lawful es from l)
         (after_lawful (after k from es) len (after_lawful es from l))
 
-    pub put_extent : (es new : List E) (p : ℕ) → All (Lawful k) es → extent_of k (put_at k p new es) ≡ extent_of k es + extent_of k new
+    pub put_extent : (es new : List E) (p : ℕ) → AllByRecursion (Lawful k) es → extent_of k (put_at k p new es) ≡ extent_of k es + extent_of k new
     put_extent es new p l =
         extent_counts (put_at k p new es)
         ∙ ap length (puts_atoms es new p l)
         ∙ simp (length-append, length-take, length-drop) (omega (arith, extent_counts es, extent_counts new))
 
-    pub taken_extent : (es : List E) (from len : ℕ) → All (Lawful k) es → from + len ≤ extent_of k es
+    pub taken_extent : (es : List E) (from len : ℕ) → AllByRecursion (Lawful k) es → from + len ≤ extent_of k es
         → extent_of k (taken k from len es) ≡ len
     taken_extent es from len l h =
         extent_counts (taken k from len es)
         ∙ ap length (taken_atoms es from len l)
         ∙ simp (length-take, length-drop) (omega (arith, extent_counts es))
 
-    pub without_extent : (es : List E) (from len : ℕ) → All (Lawful k) es → from + len ≤ extent_of k es
+    pub without_extent : (es : List E) (from len : ℕ) → AllByRecursion (Lawful k) es → from + len ≤ extent_of k es
         → extent_of k (without k from len es) ≡ extent_of k es - len
     without_extent es from len l h =
         extent_counts (without k from len es)
@@ -296,7 +296,7 @@ module _ {E A S : Type 0} (k : Meaning E A S) where
         ∙ simp (length-append, length-take, length-drop) (omega (arith, extent_counts es))
 
     -- a paste of a cut at its place gives the same atoms back
-    pub paste_of_cut : (es : List E) (from len : ℕ) → All (Lawful k) es → from + len ≤ extent_of k es
+    pub paste_of_cut : (es : List E) (from len : ℕ) → AllByRecursion (Lawful k) es → from + len ≤ extent_of k es
         → atoms_of k (put_at k from (taken k from len es) (without k from len es)) ≡ atoms_of k es
     paste_of_cut es from len l h =
         let all = atoms_of k es in

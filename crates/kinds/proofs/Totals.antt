@@ -1,22 +1,22 @@
 -- What a kind's laws give of the summaries of lists of atoms.
 use Rattle.std.proofs.Common.{◌≡◌, ℕ, ◌+◌, ◌*◌, ◌≤◌, List, [], ◌∷◌, ◌++◌, length, sym, refl, ap, ◌∙◌, arith, length-drop, length-take}
-use Rattle.std.specs.List.{ContainsAt as Has, flat_map, AllByRecursion as All}
+use Rattle.std.specs.List.{ContainsAt, flat_map, AllByRecursion}
 use Rattle.std.proofs.ByRecursion.{All-append, All-weaker, all_has_itself}
 use Rattle.faults.specs.Limits.{limit}
 use Rattle.kinds.specs.Kinds.{Meaning, Laws, Lawful, of_part, Within, IsAtom, Sums, Joinable, Tallies, total}
 
 module _ {E A S : Type 0} (k : Meaning E A S) where
   -- what an element means are atoms
-  pub atoms_atomic : (e : E) → Lawful k e → All (IsAtom k) (k.atoms e)
+  pub atoms_atomic : (e : E) → Lawful k e → AllByRecursion (IsAtom k) (k.atoms e)
   atoms_atomic e l =
-      All-weaker (Has (k.atoms e)) (IsAtom k) (λ a h. record { element = e; lawful = l; occurs = h }) (k.atoms e) (all_has_itself (k.atoms e))
+      All-weaker (ContainsAt (k.atoms e)) (IsAtom k) (λ a h. record { element = e; lawful = l; occurs = h }) (k.atoms e) (all_has_itself (k.atoms e))
 
-  pub joined_atomic : (es : List E) → All (Lawful k) es → All (IsAtom k) (flat_map k.atoms es)
+  pub joined_atomic : (es : List E) → AllByRecursion (Lawful k) es → AllByRecursion (IsAtom k) (flat_map k.atoms es)
   joined_atomic [] l = tt
   joined_atomic (e ∷ es) l = All-append (IsAtom k) (k.atoms e) (flat_map k.atoms es) (atoms_atomic e l.0) (joined_atomic es l.1)
 
   -- the summaries of two lists of atoms can be joined
-  pub joinable : (xs ys : List A) → All (IsAtom k) xs → All (IsAtom k) ys → length xs + length ys ≤ limit → Joinable k (total k xs) (total k ys)
+  pub joinable : (xs ys : List A) → AllByRecursion (IsAtom k) xs → AllByRecursion (IsAtom k) ys → length xs + length ys ≤ limit → Joinable k (total k xs) (total k ys)
   joinable xs ys p q h =
       record { left = xs; right = ys; sums_left = record { atomic = p; summed = refl }; sums_right = record { atomic = q; summed = refl }; few = h }
 
@@ -29,7 +29,7 @@ module _ {E A S : Type 0} (k : Meaning E A S) where
     part_extent e d m l w = ap length (laws.part_atoms e d m l w) ∙ simp (length-take, length-drop) (omega (arith, w.inside))
 
     -- the summary of two lists of atoms, one after the other, is theirs joined
-    pub total_append : (xs ys : List A) → All (IsAtom k) xs → All (IsAtom k) ys → length xs + length ys ≤ limit → total k (xs ++ ys) ≡ k.plus (total k xs) (total k ys)
+    pub total_append : (xs ys : List A) → AllByRecursion (IsAtom k) xs → AllByRecursion (IsAtom k) ys → length xs + length ys ≤ limit → total k (xs ++ ys) ≡ k.plus (total k xs) (total k ys)
     total_append [] ys p q h = sym (laws.none_left ys q (omega arith))
     total_append (x ∷ xs) ys p q h =
         let one : total k (x ∷ []) ≡ k.single x = laws.one_none x p.0 in
@@ -39,7 +39,7 @@ module _ {E A S : Type 0} (k : Meaning E A S) where
         ∙ ap (λ s. k.plus (k.plus s (total k xs)) (total k ys)) one
 
     -- a tally of n atoms is at most n times that of one
-    pub tally_bound : (tally : S → ℕ) → Tallies k tally → (xs : List A) → All (IsAtom k) xs → length xs ≤ limit → tally (total k xs) ≤ length xs * 16777215
+    pub tally_bound : (tally : S → ℕ) → Tallies k tally → (xs : List A) → AllByRecursion (IsAtom k) xs → length xs ≤ limit → tally (total k xs) ≤ length xs * 16777215
     tally_bound tally t [] p h = omega (arith, t.none)
     tally_bound tally t (x ∷ xs) p h =
         let one : total k (x ∷ []) ≡ k.single x = laws.one_none x p.0 in

@@ -1,6 +1,6 @@
 -- What a kind of element means, and the laws that a lawful kind shows.
 use Rattle.std.specs.Prelude.{◌≡◌, ℕ, ◌+◌, ◌^◌, ◌<◌, ◌≤◌, List, [], ◌∷◌, length, take, drop, Ok, Err, Result}
-use Rattle.std.specs.List.{ContainsAt as Has, AllByRecursion as All}
+use Rattle.std.specs.List.{ContainsAt, AllByRecursion}
 use Rattle.faults.specs.declared.causes.Cause.{Cause}
 use Rattle.faults.specs.Limits.{limit}
 use Rattle.faults.specs.Numbers.{cause_number}
@@ -37,7 +37,7 @@ pub data Lawful {E A S : Type 0} (k : Meaning E A S) : E → Type 0 where
 pub record IsAtom {E A S : Type 0} (k : Meaning E A S) (a : A) : Type 0 where
   pub element : E
   pub lawful : Lawful k element
-  pub occurs : Has (k.atoms element) a
+  pub occurs : ContainsAt (k.atoms element) a
 
 -- the summary of a list of atoms: their summaries joined in order
 abbrev pub total : {E A S : Type 0} → Meaning E A S → List A → S
@@ -46,7 +46,7 @@ total k (a ∷ rest) = k.plus (k.single a) (total k rest)
 
 -- s is the summary of the atoms xs
 pub record Sums {E A S : Type 0} (k : Meaning E A S) (xs : List A) (s : S) : Type 0 where
-  pub atomic : All (IsAtom k) xs
+  pub atomic : AllByRecursion (IsAtom k) xs
   pub summed : s ≡ total k xs
 
 -- s and t are summaries of two lists of atoms that have at most the limit together
@@ -70,12 +70,12 @@ pub record Laws {E A S : Type 0} (k : Meaning E A S) : Type 0 where
   pub part_atoms : (e : E) (d m : ℕ) → Lawful k e → Within k e d m → k.atoms (k.part e d m) ≡ take m (drop d (k.atoms e))
   -- the empty summary is neutral to the summary of one atom and of any list of atoms
   pub one_none : (a : A) → IsAtom k a → k.plus (k.single a) k.none ≡ k.single a
-  pub none_left : (xs : List A) → All (IsAtom k) xs → length xs ≤ limit → k.plus k.none (total k xs) ≡ total k xs
-  pub none_right : (xs : List A) → All (IsAtom k) xs → length xs ≤ limit → k.plus (total k xs) k.none ≡ total k xs
+  pub none_left : (xs : List A) → AllByRecursion (IsAtom k) xs → length xs ≤ limit → k.plus k.none (total k xs) ≡ total k xs
+  pub none_right : (xs : List A) → AllByRecursion (IsAtom k) xs → length xs ≤ limit → k.plus (total k xs) k.none ≡ total k xs
   -- joining is associative
-  pub assoc : (xs ys zs : List A) → All (IsAtom k) xs → All (IsAtom k) ys → All (IsAtom k) zs → length xs + length ys + length zs ≤ limit → k.plus (k.plus (total k xs) (total k ys)) (total k zs) ≡ k.plus (total k xs) (k.plus (total k ys) (total k zs))
+  pub assoc : (xs ys zs : List A) → AllByRecursion (IsAtom k) xs → AllByRecursion (IsAtom k) ys → AllByRecursion (IsAtom k) zs → length xs + length ys + length zs ≤ limit → k.plus (k.plus (total k xs) (total k ys)) (total k zs) ≡ k.plus (total k xs) (k.plus (total k ys) (total k zs))
   -- the summary of n atoms tells n
-  pub total_width : (xs : List A) → All (IsAtom k) xs → length xs ≤ limit → k.width (total k xs) ≡ length xs
+  pub total_width : (xs : List A) → AllByRecursion (IsAtom k) xs → length xs ≤ limit → k.width (total k xs) ≡ length xs
 
 -- The tally of a kind's summaries: a number that adds under joining.
 pub record Tallies {E A S : Type 0} (k : Meaning E A S) (tally : S → ℕ) : Type 0 where

@@ -1,7 +1,7 @@
 -- The columns' edges rise from 0 to the extent, and the columns joined are the whole.
 use Rattle.std.proofs.Common.{◌≡◌, ℕ, ◌+◌, ◌-◌, ◌*◌, ◌^◌, ◌<◌, ◌≤◌, List, length, take, drop, Ok, Err, Result, sym, ap, ◌∙◌, le_trans, mul-le-mul_right, le-div_iff_mul-le, div-mul-le_self, arith, length-drop, length-take}
 use native.Mathlib.Nat.{div-le_of_le-mul, mul-div_cancel_left}
-use Rattle.std.specs.List.{AllByRecursion as All}
+use Rattle.std.specs.List.{AllByRecursion}
 use Rattle.std.proofs.ByRecursion.{All-take, All-drop}
 use Rattle.reels.proofs.Copies.{take_both}
 use Rattle.faults.specs.Limits.{limit}
@@ -35,11 +35,11 @@ pub joinable_at : {E A S : Type 0} (k : Meaning E A S) (s t u v : S) → s ≡ u
 joinable_at k s t u v p q j = rw (p, q) j
 
 -- One stretch more of what is summed up from the front.
-module _ {E A S : Type 0} (k : Meaning E A S) (laws : Laws k) (xs : List A) (atomic : All (IsAtom k) xs) (few : length xs ≤ limit) (from to : ℕ) (order : from ≤ to) (inside : to ≤ length xs) where
-  front : All (IsAtom k) (take from xs)
+module _ {E A S : Type 0} (k : Meaning E A S) (laws : Laws k) (xs : List A) (atomic : AllByRecursion (IsAtom k) xs) (few : length xs ≤ limit) (from to : ℕ) (order : from ≤ to) (inside : to ≤ length xs) where
+  front : AllByRecursion (IsAtom k) (take from xs)
   front = All-take (IsAtom k) from xs atomic
 
-  next : All (IsAtom k) (take (to - from) (drop from xs))
+  next : AllByRecursion (IsAtom k) (take (to - from) (drop from xs))
   next = All-take (IsAtom k) (to - from) (drop from xs) (All-drop (IsAtom k) from xs atomic)
 
   short : length (take from xs) + length (take (to - from) (drop from xs)) ≤ limit

@@ -5,18 +5,18 @@ use Rattle.std.proofs.lemmas.List.{length-map}
 use Rattle.std.specs.Int.Signed.{mag}
 use borrow.Author.Gap.{read_sfits}
 use Rattle.std.specs.Int.{int_max, w16}
-use Rattle.std.specs.List.{AllByRecursion as All}
+use Rattle.std.specs.List.{AllByRecursion}
 use Rattle.std.proofs.ByRecursion.{All-take, All-append}
 use Rattle.reels.specs.Samples.{Bounds, cut}
 use Rattle.reels.specs.Pcm.{pairs, pcm_samples}
 use Rattle.reels.specs.MuLaw.{inverted, segment, place, apart, value, signed, sign, decoded, mu_law_samples}
 use Rattle.reels.specs.Gain.{held, scaled}
 
-cut_keeps : (xs : List ℤ) → All (FitsSigned w16) xs → Bounds (cut xs)
+cut_keeps : (xs : List ℤ) → AllByRecursion (FitsSigned w16) xs → Bounds (cut xs)
 unfolding cut
 cut_keeps xs fits = record { few = rw length-take (omega arith); narrow = All-take (FitsSigned w16) 1073741824 xs fits }
 
-pairs_fit : (bytes : List ℕ) → All (FitsSigned w16) (pairs bytes)
+pairs_fit : (bytes : List ℕ) → AllByRecursion (FitsSigned w16) (pairs bytes)
 pairs_fit [] = tt
 pairs_fit (low ∷ []) = tt
 pairs_fit (low ∷ high ∷ rest) = (read_sfits w16 _, pairs_fit rest)
@@ -48,7 +48,7 @@ decoded_fits byte =
     let u = inverted byte in
     record { sfits = omega (arith, mag_signed (sign (inverted byte)) (4 * value (inverted byte)), value_le (inverted byte)) }
 
-all_decoded : (bytes : List ℕ) → All (FitsSigned w16) (map decoded bytes)
+all_decoded : (bytes : List ℕ) → AllByRecursion (FitsSigned w16) (map decoded bytes)
 all_decoded [] = tt
 all_decoded (b ∷ rest) = (decoded_fits b, all_decoded rest)
 
@@ -68,7 +68,7 @@ unfolding held
 held_fits (pos n) = held_pos n _ refl
 held_fits (negsuc n) = held_neg n _ refl
 
-all_scaled : (n : ℕ) (xs : List ℤ) → All (FitsSigned w16) (map (scaled n) xs)
+all_scaled : (n : ℕ) (xs : List ℤ) → AllByRecursion (FitsSigned w16) (map (scaled n) xs)
 unfolding scaled
 all_scaled n [] = tt
 all_scaled n (x ∷ xs) = (held_fits _, all_scaled n xs)

@@ -2,12 +2,12 @@
 use Rattle.std.specs.Prelude.{◌≡◌, ℕ, ◌-◌, ◌*◌, ◌/◌, ◌%◌, ◌≤◌, min, List, [], ◌∷◌, ◌++◌, length, take, drop, ℤ, FitsSigned}
 use Rattle.std.proofs.Common.{of_z}
 use Rattle.std.specs.Int.{w16}
-use Rattle.std.specs.List.{AllByRecursion as All}
+use Rattle.std.specs.List.{AllByRecursion}
 
 -- what every reel keeps
 pub record Bounds (samples : List ℤ) : Type 0 where
   pub few : length samples ≤ 1073741824
-  pub narrow : All (FitsSigned w16) samples
+  pub narrow : AllByRecursion (FitsSigned w16) samples
 
 -- a list as far as a reel can have it
 unfoldable pub cut : {X : Type 0} → List X → List X

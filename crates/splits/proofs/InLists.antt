@@ -1,6 +1,6 @@
 -- What is taken apart and put together, as lists.
 use Rattle.std.proofs.Common.{◌≡◌, ℕ, List, [], ◌∷◌, ◌++◌, Some, Option, sym, ap, ◌∙◌, subst}
-use Rattle.std.specs.List.{AllByRecursion as All}
+use Rattle.std.specs.List.{AllByRecursion}
 use Rattle.kinds.specs.Kinds.{Meaning, Laws, Lawful}
 use Rattle.kinds.specs.Places.{after}
 use Rattle.balance.specs.Trees.{Tree, elements}
@@ -32,7 +32,7 @@ leaves_tree k b place o t rest_is = ap listed rest_is ∙ (parted_divides (shape
 pub joins_lists : {E : Type 0} (u t : Tree E) (s : Rest E) → u ≡ joined t s → elements u ≡ elements t ++ listed s
 joins_lists u t s is = ap elements is ∙ joined_elements t s
 
-pub merges_lists : {E A S : Type 0} (k : Meaning E A S) → Laws k → (u l r : Tree E) → All (Lawful k) (elements r) → u ≡ merge (shape k) l r → elements u ≡ elements l ++ elements r
+pub merges_lists : {E A S : Type 0} (k : Meaning E A S) → Laws k → (u l r : Tree E) → AllByRecursion (Lawful k) (elements r) → u ≡ merge (shape k) l r → elements u ≡ elements l ++ elements r
 merges_lists k laws u l r lawful is = ap elements is ∙ merge_elements (shape k) l r (all_solid k laws (elements r) lawful)
 
 -- a rest that is a loose element

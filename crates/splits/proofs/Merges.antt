@@ -1,6 +1,6 @@
 -- A tree, then another, which is lent.
 use Rattle.std.proofs.Common.{◌≡◌, ℕ, ◌+◌, ◌^◌, ◌<◌, ◌≤◌, false, List, [], ◌∷◌, ◌++◌, Some, None, Option, sym, refl, ap, ◌∙◌, subst, arith}
-use Rattle.std.specs.List.{AllByRecursion as All}
+use Rattle.std.specs.List.{AllByRecursion}
 use Rattle.faults.specs.Limits.{limit}
 use Rattle.kinds.specs.Kinds.{Meaning, Laws, Lawful}
 use Rattle.balance.specs.Trees.{Tree, count, elements}
@@ -62,7 +62,7 @@ module _ {E A S : Type 0} (k : Meaning E A S) (laws : Laws k) (a : List (Cell E 
   sound : Sound (count R) s.before s.rest
   sound = parted_sound (shape k) R 0 (known k a owns.arena.sound right right_live).balanced
 
-  pub right_lawful : All (Lawful k) (elements R)
+  pub right_lawful : AllByRecursion (Lawful k) (elements R)
   right_lawful = tree_lawful k a owns.arena.sound right right_live
 
   spans : span (shape k) s.before + extents (shape k) (listed s.rest) ≡ span (shape k) R

@@ -1,6 +1,6 @@
 -- Dividing at a place, in the words of trees and in those of kinds: the same lists, of which nothing is lost.
 use Rattle.std.proofs.Common.{◌≡◌, ℕ, ◌+◌, ◌-◌, ◌≤◌, eqb, ltb, List, [], ◌∷◌, length, sym, refl, ap, ◌∙◌, subst, arith}
-use Rattle.std.specs.List.{AllByRecursion as All}
+use Rattle.std.specs.List.{AllByRecursion}
 use Rattle.std.proofs.ByRecursion.{All-weaker}
 use Rattle.std.proofs.lemmas.Bool.{lt-leb, cond-false}
 use Rattle.kinds.specs.Kinds.{Meaning, Laws, Lawful}
@@ -50,17 +50,17 @@ module _ {E A S : Type 0} (k : Meaning E A S) where
   same_without from len es = simp (same_before from es, same_after from es, same_after len (after k from es))
 
   module _ (laws : Laws k) where
-    pub all_solid : (es : List E) → All (Lawful k) es → Solid (shape k) es
+    pub all_solid : (es : List E) → AllByRecursion (Lawful k) es → Solid (shape k) es
     all_solid es l = All-weaker (Lawful k) (λ e. 1 ≤ extent k e) laws.some es l
 
-    pub front_lawful : (p : ℕ) (es : List E) → All (Lawful k) es → All (Lawful k) (front (shape k) p es)
-    front_lawful p es l = subst (All (Lawful k)) (sym (same_before p es)) (before_lawful k laws es p l)
+    pub front_lawful : (p : ℕ) (es : List E) → AllByRecursion (Lawful k) es → AllByRecursion (Lawful k) (front (shape k) p es)
+    front_lawful p es l = subst (AllByRecursion (Lawful k)) (sym (same_before p es)) (before_lawful k laws es p l)
 
-    pub back_lawful : (p : ℕ) (es : List E) → All (Lawful k) es → All (Lawful k) (back (shape k) p es)
-    back_lawful p es l = subst (All (Lawful k)) (sym (same_after p es)) (after_lawful k laws es p l)
+    pub back_lawful : (p : ℕ) (es : List E) → AllByRecursion (Lawful k) es → AllByRecursion (Lawful k) (back (shape k) p es)
+    back_lawful p es l = subst (AllByRecursion (Lawful k)) (sym (same_after p es)) (after_lawful k laws es p l)
 
     -- both sides of a place have the extent of the whole
-    pub both_extents : (p : ℕ) (es : List E) → All (Lawful k) es
+    pub both_extents : (p : ℕ) (es : List E) → AllByRecursion (Lawful k) es
         → extents (shape k) (front (shape k) p es) + extents (shape k) (back (shape k) p es) ≡ extents (shape k) es
     both_extents p es l =
         let x = ap (extents (shape k)) (same_before p es) ∙ same_extent (before k p es) in
@@ -69,7 +69,7 @@ module _ {E A S : Type 0} (k : Meaning E A S) where
         omega (arith, extent_append k (before k p es) (after k p es), same_extent es)
 
     -- so of a tree that is taken apart, and of a rest
-    pub parted_extents : (t : Tree E) (p : ℕ) → All (Lawful k) (elements t)
+    pub parted_extents : (t : Tree E) (p : ℕ) → AllByRecursion (Lawful k) (elements t)
         → span (shape k) (parted (shape k) t p).before + extents (shape k) (listed (parted (shape k) t p).rest) ≡ span (shape k) t
     parted_extents t p l =
         let s = parted_divides (shape k) t p in
@@ -81,7 +81,7 @@ module _ {E A S : Type 0} (k : Meaning E A S) where
           span_extents (shape k) t,
         )
 
-    pub rest_extents : (s : Rest E) (p : ℕ) → All (Lawful k) (listed s)
+    pub rest_extents : (s : Rest E) (p : ℕ) → AllByRecursion (Lawful k) (listed s)
         → span (shape k) (parted_rest (shape k) s p).before + extents (shape k) (listed (parted_rest (shape k) s p).rest) ≡ extents (shape k) (listed s)
     rest_extents s p l =
         let d = parted_rest_divides (shape k) s p in

@@ -2,7 +2,7 @@
 use Rattle.std.specs.Prelude.{◌≡◌, ℕ, zero, suc, ◌*◌, ◌≤◌, Bool, true, false, cond, List, [], ◌∷◌, length, take, replicate, Ok, Err, ◌==◌, nat_lt, refl}
 use Rattle.std.proofs.Common.{sym, ap, ◌∙◌, suc-mul, arith, ltb-false}
 use Rattle.std.proofs.lemmas.Bool.{eqb-false}
-use Rattle.std.specs.List.{AllByRecursion as All}
+use Rattle.std.specs.List.{AllByRecursion}
 use Rattle.std.proofs.ByRecursion.{all-has}
 use Rattle.std.proofs.lemmas.List.{drop-replicate, take-replicate, length-replicate}
 use Rattle.faults.specs.Limits.{limit}
@@ -52,7 +52,7 @@ timed (of_part whole d m e l w h) =
     let quick : e.tempo ≡ whole.tempo = sym (ap (λ s. s.tempo) h) in
     record { some = omega (arith, w.some, ticks); few = omega (arith, w.inside, n, i.few, ticks); quick = omega (arith, i.quick, quick) }
 
-all_replicate : (P : ℕ → Type 0) (n x : ℕ) → P x → All P (replicate n x)
+all_replicate : (P : ℕ → Type 0) (n x : ℕ) → P x → AllByRecursion P (replicate n x)
 all_replicate P zero x p = tt
 all_replicate P (suc n) x p = (p, all_replicate P n x p)
 
@@ -67,7 +67,7 @@ pub record Counted (n : ℕ) (s : Beats) : Type 0 where
   pub ticks : s.ticks ≡ n
   pub units : s.units ≤ n * 16777215
 
-pub counted : (xs : List ℕ) → All (IsAtom tempo) xs → Counted (length xs) (total tempo xs)
+pub counted : (xs : List ℕ) → AllByRecursion (IsAtom tempo) xs → Counted (length xs) (total tempo xs)
 counted [] h = record { ticks = refl; units = omega arith }
 counted (x ∷ xs) h =
     let r = counted xs h.1 in

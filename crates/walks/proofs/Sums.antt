@@ -1,6 +1,6 @@
 -- Lists of atoms that a kind can sum up, and their parts.
 use Rattle.std.proofs.Common.{◌≡◌, ℕ, ◌≤◌, List, [], ◌∷◌, ◌++◌, length, take, drop, Some, None, Option, sym, refl, ap, ◌∙◌, subst, arith, length-append, take-append-drop, take_all}
-use Rattle.std.specs.List.{slice_get, AllByRecursion as All}
+use Rattle.std.specs.List.{slice_get, AllByRecursion}
 use Rattle.faults.specs.Limits.{limit}
 use Rattle.kinds.specs.Kinds.{Meaning, Laws, Lawful, Within, IsAtom, Joinable, total}
 use Rattle.kinds.proofs.Totals.{atoms_atomic, joinable, part_lawful, total_append}
@@ -9,17 +9,17 @@ use Rattle.balance.specs.Ways.{span}
 use Rattle.cells.specs.Cells.{shape, tree, meant, summed, sum_at, linked, Live, Sound}
 use Rattle.cells.proofs.Trees.{none_tree, meant_span}
 
-all_left : {X : Type 0} (P : X → Type 0) (xs ys : List X) → All P (xs ++ ys) → All P xs
+all_left : {X : Type 0} (P : X → Type 0) (xs ys : List X) → AllByRecursion P (xs ++ ys) → AllByRecursion P xs
 all_left P [] ys a = tt
 all_left P (x ∷ xs) ys a = (a.0, all_left P xs ys a.1)
 
-all_right : {X : Type 0} (P : X → Type 0) (xs ys : List X) → All P (xs ++ ys) → All P ys
+all_right : {X : Type 0} (P : X → Type 0) (xs ys : List X) → AllByRecursion P (xs ++ ys) → AllByRecursion P ys
 all_right P [] ys a = a
 all_right P (x ∷ xs) ys a = all_right P xs ys a.1
 
 -- atoms, at most the limit
 pub record Few {E A S : Type 0} (k : Meaning E A S) (xs : List A) : Type 0 where
-  pub atomic : All (IsAtom k) xs
+  pub atomic : AllByRecursion (IsAtom k) xs
   pub few : length xs ≤ limit
 
 module _ {E A S : Type 0} (k : Meaning E A S) where
