@@ -1,1 +1,2 @@
+pub mod Louder
 pub mod Sums
