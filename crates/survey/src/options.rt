@@ -1,8 +1,8 @@
 ghost use Rattle.std.specs.Prelude.{◌^◌, ◌<◌, ◌≤◌, IfSome, IfOk};
 
-// How the bytes of a file mean samples.
 use anyhow::anyhow;
 
+// How the bytes of a file mean samples.
 #[derive(Clone, Copy)]
 pub enum Format {
     Pcm,
