@@ -171,7 +171,7 @@ def main():
         for k, v in sorted(names.items()):
             print(k, v)
         return
-    if together and "--all" not in sys.argv:
+    if together:
         raise SystemExit(1)
     for p, t in texts.items():
         kept = kept_here(t, mine)

@@ -70,20 +70,20 @@ spine_few l r br few = ⊎_elim
 
 passes_few : {E : Type 0} (l r : Tree E) → Balanced l → Balanced r → count l ≤ most → count r ≤ most → passes l r ≤ deepest
 unfolding passes
-passes_few l r bl br few-l few-r =
+passes_few l r bl br few_l few_r =
     by_weight (λ k. k ≤ deepest) (weight l) (weight r) _ _ _
-    (λ right_heavy. spine_few l r br few-r)
+    (λ right_heavy. spine_few l r br few_r)
     (λ left_heavy. spine_few (mirror r) (mirror l) (mirror_balanced l bl) (omega (arith, mirror_count l)))
     (λ right_light left_light. omega arith)
 
 pub link_cost_lem : {E : Type 0} (l r : Tree E) → Balanced l → Balanced r → count l ≤ most → count r ≤ most → link_cost l r ≤ 85
 unfolding link_cost
-link_cost_lem l r bl br few-l few-r = omega (arith, passes_few l r bl br few-l few-r)
+link_cost_lem l r bl br few_l few_r = omega (arith, passes_few l r bl br few_l few_r)
 
 pub joined_cost_lem : {E : Type 0} (t : Tree E) (s : Rest E) → Balanced t → Balanced (tail s) → count t ≤ most → count (tail s) ≤ most → joined_cost t s ≤ 85
 unfolding joined_cost
-joined_cost_lem t done bt bs few-t few-s = omega arith
-joined_cost_lem t (more e r) bt bs few-t few-s = link_cost_lem t r bt bs few-t few-s
+joined_cost_lem t done bt bs few_t few_s = omega arith
+joined_cost_lem t (more e r) bt bs few_t few_s = link_cost_lem t r bt bs few_t few_s
 
 -- ---- all the links along a way
 
@@ -207,9 +207,9 @@ module _ {E : Type 0} (k : Shape E) where
 
   pub merge_cost_lem : (l r : Tree E) → Balanced l → Balanced r → count l ≤ most → count r ≤ most → merge_cost k l r ≤ 281
   unfolding merge_cost
-  merge_cost_lem l r bl br few-l few-r =
+  merge_cost_lem l r bl br few_l few_r =
       let sound = parted_sound k r 0 br in
-      omega (arith, parted_cost_lem r 0 br few-r, joined_cost_lem l (parted k r 0).rest bl sound.rest_balanced few-l (omega (arith, sound.rest_few)))
+      omega (arith, parted_cost_lem r 0 br few_r, joined_cost_lem l (parted k r 0).rest bl sound.rest_balanced few_l (omega (arith, sound.rest_few)))
 
   -- an edit starts from a tree with room for the element that dividing may add
   pub put_cost_lem : (t : Tree E) (p : ℕ) (new : Tree E) → Balanced t → Balanced new → count t + count new < most → put_cost k t p new ≤ 562

@@ -10,9 +10,9 @@ use Rattle.balance.proofs.Mirrors.{same_count, mirror_mirror, mirror_count, mirr
 pub by_weight : {A : Type 0} (P : A → Type 0) (v w : ℕ) (right left even : A)
     → (Δ * v < w → P right) → (Δ * w < v → P left) → (w ≤ Δ * v → v ≤ Δ * w → P even) → P (weighed v w right left even)
 unfolding weighed
-by_weight P v w right left even on-right on-left on-even =
+by_weight P v w right left even on_right on_left on_even =
     by_tests P (ltb (Δ * v) w) (ltb (Δ * w) v) right left even
-    (λ heavy. on-right (omega tests)) (λ light heavy. on-left (omega tests)) (λ light light'. on-even (omega tests) (omega tests))
+    (λ heavy. on_right (omega tests)) (λ light heavy. on_left (omega tests)) (λ light light'. on_even (omega tests) (omega tests))
 
 -- seen from the other side
 pub weighed_swap : {A : Type 0} (v w : ℕ) (right left even : A) → weighed v w right left even ≡ weighed w v left right even

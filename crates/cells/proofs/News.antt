@@ -103,7 +103,7 @@ module _ {E A S : Type 0} (k : Meaning E A S) (laws : Laws k) (a : List (Cell E 
       e4 ∙ ap (k.plus sl) (behind_is sr s e2 e1) ∙ ap (λ x. k.plus x (k.plus (total k (k.atoms e)) (total k (meant k r)))) (e3 ∙ left_told.sums)
       ∙ sym (node_total k laws l e r left_told.atomic fits.lawful right_told.atomic fits.short)
 
-  module _ (some : 0 < p.free) (n : ℕ) (s : S) (n-is : n ≡ cell_count a left + 1 + cell_count a right) (s-is : s ≡ total k (meant k (node l e r)))
+  module _ (some : 0 < p.free) (n : ℕ) (s : S) (n_is : n ≡ cell_count a left + 1 + cell_count a right) (s_is : s ≡ total k (meant k (node l e r)))
       (f : Cell E S) (at : slice_get a p.head ≡ Some f) where
     abbrev d : Cell E S
     d = record { element = e; own = own; left = left; right = right; count = n; summary = s; refs = 1 }
@@ -127,7 +127,7 @@ module _ {E A S : Type 0} (k : Meaning E A S) (laws : Laws k) (a : List (Cell E 
     remains = remains_made k a p.head f at d was_free
 
     tree_new : tree b p.head ≡ node l e r
-    tree_new = tree_made k a p.head f at d arena.sound was_free left_live right_live n-is
+    tree_new = tree_made k a p.head f at d arena.sound was_free left_live right_live n_is
 
     good : Good k b p.head d
     good =
@@ -143,7 +143,7 @@ module _ {E A S : Type 0} (k : Meaning E A S) (laws : Laws k) (a : List (Cell E 
           right_light = omega (arith, fits.right_light);
           lawful = fits.lawful;
           owns = fits.owns;
-          sums = s-is ∙ ap (λ x. total k (meant k x)) (sym tree_new);
+          sums = s_is ∙ ap (λ x. total k (meant k x)) (sym tree_new);
           few = subst (λ x. length (meant k x) ≤ limit) (sym tree_new) (node_few k laws l e r left_told.atomic fits.lawful right_told.atomic fits.short);
           atomic = subst (λ x. AllByRecursion (IsAtom k) (meant k x)) (sym tree_new) (node_atomic k laws l e r left_told.atomic fits.lawful right_told.atomic fits.short);
         }
@@ -184,11 +184,11 @@ module _ {E A S : Type 0} (k : Meaning E A S) (laws : Laws k) (a : List (Cell E 
       → sr ≡ sum_at k a right → (Joinable k own sr → s ≡ k.plus own sr) → sl ≡ sum_at k a left → (Joinable k sl s → t ≡ k.plus sl s) → slice_get a p.head ≡ Some f
       → b ≡ set a p.head (record { element = e; own = own; left = left; right = right; count = cl + 1 + cr; summary = t; refs = 1 })
       → Yields k false a p rs b (record { head = f.left; free = p.free - 1 }) p.head (node l e r) 1
-  made_by some cl cr sr s sl t f b cl-is cr-is sr-is s-is sl-is t_is at b-is =
-      let s1 = s-is (joins_right sr sr-is) in
-      let t1 = t_is (joins_left sl sr s sr-is s1 sl-is) in
-      subst (λ x. Yields k false a p rs x (record { head = f.left; free = p.free - 1 }) p.head (node l e r) 1) (sym b-is)
-      (made some (cl + 1 + cr) t (omega arith) (summary_is sl sr s t sr-is s1 sl-is t1) f at)
+  made_by some cl cr sr s sl t f b cl_is cr_is sr_is s_is sl_is t_is at b_is =
+      let s1 = s_is (joins_right sr sr_is) in
+      let t1 = t_is (joins_left sl sr s sr_is s1 sl_is) in
+      subst (λ x. Yields k false a p rs x (record { head = f.left; free = p.free - 1 }) p.head (node l e r) 1) (sym b_is)
+      (made some (cl + 1 + cr) t (omega arith) (summary_is sl sr s t sr_is s1 sl_is t1) f at)
 
   pub counts_fit : (cl cr : ℕ) → cl ≡ cell_count a left → cr ≡ cell_count a right → cl + 1 + cr < 2 ^ 32
   counts_fit cl cr el er = omega (arith, fits.few, left_known.counts, right_known.counts)

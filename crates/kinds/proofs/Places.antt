@@ -221,8 +221,8 @@ module _ {E A S : Type 0} (k : Meaning E A S) where
         let end = after k len rest in
         let twice = divided k (from + len) (front ++ rest) in
         let rest_lawful = after_lawful es from l in
-        let range-lawful = before_lawful rest len rest_lawful in
-        let end-lawful = after_lawful rest len rest_lawful in
+        let range_lawful = before_lawful rest len rest_lawful in
+        let end_lawful = after_lawful rest len rest_lawful in
         let front_extent : extent_of k front ≡ from = before_extent es from l (omega arith) in
         let range_extent : extent_of k range ≡ len = before_extent rest len rest_lawful (omega (arith, after_extent es from l)) in
         let both_extent : extent_of k (front ++ range) ≡ from + len = extent_append front range ∙ omega arith in
@@ -230,13 +230,13 @@ module _ {E A S : Type 0} (k : Meaning E A S) where
         let two : twice ≡ (front ++ range) ++ end =
         ap (λ (n : ℕ). divided k n (front ++ rest)) there ∙ simp (before_skip front rest len, after_skip front rest len) in
         let three : twice ≡ front ++ (range ++ end) = two ∙ append_assoc front range end in
-        let at_from = divides_nothing front (range ++ end) from front_extent (All-append (Lawful k) range end range-lawful end-lawful) in
-        let at_end_lem = divides_nothing (front ++ range) end (from + len) both_extent end-lawful in
-        let range-alone = divides_nothing front range from front_extent range-lawful in
+        let at_from = divides_nothing front (range ++ end) from front_extent (All-append (Lawful k) range end range_lawful end_lawful) in
+        let at_end_lem = divides_nothing (front ++ range) end (from + len) both_extent end_lawful in
+        let range_alone = divides_nothing front range from front_extent range_lawful in
         let front_again : before k from twice ≡ front = ap (before k from) three ∙ at_from.0 in
         let end_again : after k (from + len) twice ≡ end = ap (after k (from + len)) two ∙ at_end_lem.1 in
         let both_again : before k (from + len) twice ≡ front ++ range = ap (before k (from + len)) two ∙ at_end_lem.0 in
-        (sym (ap (after k from) both_again ∙ range-alone.1), sym (simp (front_again, end_again)))
+        (sym (ap (after k from) both_again ∙ range_alone.1), sym (simp (front_again, end_again)))
 
     -- elements put at a place put their atoms there
     pub puts_atoms : (es new : List E) (p : ℕ) → AllByRecursion (Lawful k) es

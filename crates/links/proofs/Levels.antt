@@ -88,7 +88,7 @@ module _ {E A S : Type 0} (k : Meaning E A S) (flip : Bool) (a b : List (Cell E 
 
 -- ---- the levels
 
-module _ {E A S : Type 0} (k : Meaning E A S) (flip : Bool) (a : List (Cell E S)) (sound : Sound k a) (top : ℕ) (top-live : Live a top)
+module _ {E A S : Type 0} (k : Meaning E A S) (flip : Bool) (a : List (Cell E S)) (sound : Sound k a) (top : ℕ) (top_live : Live a top)
     (L : Tree E) (e : E) (balanced : Balanced L) (linkable : Linkable k L e (seen flip a top)) (light : weight L ≤ Δ * weight (seen flip a top))
     (table : List ℕ) (foot : Foot) (sunk : Sunk k flip a L top table foot) where
   abbrev t : ℕ → Tree E
@@ -98,7 +98,7 @@ module _ {E A S : Type 0} (k : Meaning E A S) (flip : Bool) (a : List (Cell E S)
   n = foot.top
 
   pub descent_live : (j : ℕ) → Live a (descent flip a top j)
-  descent_live j = let d = descent_path flip a top j in subst (Live a) d.1 (reached_live k a sound top d.0 top-live)
+  descent_live j = let d = descent_path flip a top j in subst (Live a) d.1 (reached_live k a sound top d.0 top_live)
 
   first_is : t 0 ≡ seen flip a top
   first_is = ap (seen flip a) (descent_none flip a top)

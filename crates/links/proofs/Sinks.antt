@@ -65,7 +65,7 @@ module _ {E A S : Type 0} (k : Meaning E A S) (flip : Bool) (a : List (Cell E S)
     left_counts : count L ≡ cell_count a left
     left_counts = seen_known k flip a sound left left_live
 
-    module _ (cl cx : ℕ) (cl-is : cl ≡ cell_count a left) (cx-is : cx ≡ cell_count a x) (too : Bool) (test : too ≡ ltb (Δ * (cl + 1)) (cx + 1)) where
+    module _ (cl cx : ℕ) (cl_is : cl ≡ cell_count a left) (cx_is : cx ≡ cell_count a x) (too : Bool) (test : too ≡ ltb (Δ * (cl + 1)) (cx + 1)) where
       heavy : too ≡ true → Δ * weight L < weight (seen flip a x)
       heavy t = let f : ltb (Δ * (cl + 1)) (cx + 1) ≡ true = sym test ∙ t in omega (tests, left_counts, x_counts)
 

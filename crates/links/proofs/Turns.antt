@@ -79,7 +79,7 @@ module _ {E A S : Type 0} (k : Meaning E A S) (flip : Bool) (a : List (Cell E S)
   y_fits = omega (arith, y_counts, rotated_count X top.element Y item.element Z, sits.few)
 
   -- the test that the code makes
-  module _ (inner outer : ℕ) (inner-is : inner ≡ cell_count a y) (outer-is : outer ≡ cell_count a x) (once : Bool) (test : once ≡ ltb (inner + 1) (Γ * (outer + 1))) where
+  module _ (inner outer : ℕ) (inner-is : inner ≡ cell_count a y) (outer_is : outer ≡ cell_count a x) (once : Bool) (test : once ≡ ltb (inner + 1) (Γ * (outer + 1))) where
     on_weights : once ≡ ltb (weight Y) (Γ * weight X)
     on_weights =
         let i : inner + 1 ≡ weight Y = omega (arith, y_counts) in
@@ -137,7 +137,7 @@ module _ {E A S : Type 0} (k : Meaning E A S) (flip : Bool) (a : List (Cell E S)
   pub right_fits : cell_count a z + 1 < 2 ^ 32
   right_fits = omega (arith, r_counts, all_count)
 
-  module _ (heavy light : ℕ) (heavy-of : heavy ≡ cell_count a x) (light-of : light ≡ cell_count a z) (too : Bool) (test : too ≡ ltb (Δ * (light + 1)) (heavy + 1)) where
+  module _ (heavy light : ℕ) (heavy_of : heavy ≡ cell_count a x) (light_of : light ≡ cell_count a z) (too : Bool) (test : too ≡ ltb (Δ * (light + 1)) (heavy + 1)) where
     weighs : too ≡ ltb (Δ * weight R) (weight L)
     weighs =
         let h : heavy + 1 ≡ weight L = omega (arith, l_counts) in

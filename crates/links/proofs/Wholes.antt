@@ -85,7 +85,7 @@ module _ {E A S : Type 0} (k : Meaning E A S) (a : List (Cell E S)) (p : Pool) (
     linked yields = record { yields = yields; order = ap elements (yields holds.rest holds.arena).tree_is ∙ link_elements L e R }
 
     linked_by : (t : Tree E) (n : ℕ) → t ≡ link L e R → n ≡ link_cost L R → ((rs : List ℕ) → Arena k a p (x ∷ y ∷ rs) → Yields k false a p rs b q r t n) → Linked k a p x e y b q r
-    linked_by t n t_is n-is yields = linked (λ rs ar. subst (Yields k false a p rs b q r (link L e R)) n-is (subst (λ u. Yields k false a p rs b q r u n) t_is (yields rs ar)))
+    linked_by t n t_is n_is yields = linked (λ rs ar. subst (Yields k false a p rs b q r (link L e R)) n_is (subst (λ u. Yields k false a p rs b q r u n) t_is (yields rs ar)))
 
   -- the two tests that the code makes
   module _ (before behind : ℕ) (before_is : before ≡ cell_count a x) (behind_is : behind ≡ cell_count a y) where

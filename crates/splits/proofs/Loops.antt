@@ -153,11 +153,11 @@ module _ {E A S : Type 0} (k : Meaning E A S) (flip : Bool) (a : List (Cell E S)
   unfolding rebuilt rebuilt_cost
   regrowing_end b q x n none inv ss passed =
       let z : n ≡ 0 = omega arith in
-      let steps-none = none_left flip b inv.steps (subst (λ (n : ℕ). Table flip b (take n table) inv.steps) z inv.passed) in
+      let steps_none = none_left flip b inv.steps (subst (λ (n : ℕ). Table flip b (take n table) inv.steps) z inv.passed) in
       let all : ss ≡ g.climbs.steps = table_one flip a (take top table) ss g.climbs.steps passed g.climbs.passed in
       let cost : inv.spent ≡ 0 + rebuilt_cost ss (seen flip a low) =
-      omega (arith, inv.cost, ap (λ ss. rebuilt_cost ss (seen flip b x)) steps-none, ap (λ ss. rebuilt_cost ss (seen flip a low)) all) in
+      omega (arith, inv.cost, ap (λ ss. rebuilt_cost ss (seen flip b x)) steps_none, ap (λ ss. rebuilt_cost ss (seen flip a low)) all) in
       record {
         each = subst (Moves k a p (low ∷ []) b q (x ∷ [])) cost inv.each;
-        tree_is = ap (λ ss. rebuilt link ss (seen flip b x)) (sym steps-none) ∙ inv.same ∙ ap (λ ss. rebuilt link ss (seen flip a low)) (sym all);
+        tree_is = ap (λ ss. rebuilt link ss (seen flip b x)) (sym steps_none) ∙ inv.same ∙ ap (λ ss. rebuilt link ss (seen flip a low)) (sym all);
       }

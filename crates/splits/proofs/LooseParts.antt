@@ -182,11 +182,11 @@ module _ {E A S : Type 0} (k : Meaning E A S) (laws : Laws k) (a : List (Cell E 
         pub link_holds : length xs ≤ 1 → Holds k c o (i ∷ r.before ∷ []) (2 ^ 24)
         link_holds one = record { rest = xs ++ owns.rest; arena = with_none (xs ++ owns.rest) arena_c; few = omega (arith, owns.few, length-append xs owns.rest) }
 
-        module _ (f : E) (f-is : f ≡ e) where
+        module _ (f : E) (f_is : f ≡ e) where
           pub link_linkable : Linkable k (tree c i) f (tree c r.before)
           link_linkable = record {
             few = omega (arith, ap count none_c, ap count before_c, sound.before_few, few);
-            short = omega (arith, ap (span (shape k)) none_c, ap (span (shape k)) before_c, ap (shape k).extent f-is, spans, short);
+            short = omega (arith, ap (span (shape k)) none_c, ap (span (shape k)) before_c, ap (shape k).extent f_is, spans, short);
           }
 
           link_cost_lem : link_cost (tree c i) (tree c r.before) ≡ link_cost leaf s.before
@@ -207,7 +207,7 @@ module _ {E A S : Type 0} (k : Meaning E A S) (laws : Laws k) (a : List (Cell E 
                 let last = linked (xs ++ owns.rest) (with_none (xs ++ owns.rest) arena_c) in
                 record {
                   each = subst (Moves k a p (l.root ∷ []) z w (x ∷ xs)) m all;
-                  before_is = last.tree_is ∙ ap (λ t. link t f (tree c r.before)) none_c ∙ ap (λ g. link leaf g (tree c r.before)) f-is ∙ ap (link leaf e) before_c ∙ ap (λ s. s.before) (sym whole_is);
+                  before_is = last.tree_is ∙ ap (λ t. link t f (tree c r.before)) none_c ∙ ap (λ g. link leaf g (tree c r.before)) f_is ∙ ap (link leaf e) before_c ∙ ap (λ s. s.before) (sym whole_is);
                   rest_is =
                       behind_stays c z r.loose (λ j among. last.moved.stay j (omega (arith, occurs_append xs owns.rest j)))
                       ∙ behind_stays b c r.loose (λ j among. stays_c j (omega arith)) ∙ split.rest_is ∙ ap (λ s. s.rest) (sym whole_is);

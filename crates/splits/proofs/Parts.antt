@@ -80,9 +80,9 @@ module _ {E : Type 0} (s : Shape E) (l : Tree E) (e : E) (r : Tree E) (d : ℕ) 
       (cases_eq d 0)
 
   pub up_to_span : ((d ≡ 0 → ⊥) → s.extent (s.part e 0 d) ≡ d) → d ≤ s.extent e → span s (up_to s l e d) ≤ span s l + s.extent e
-  up_to_span part-is h = ⊎_elim
+  up_to_span part_is h = ⊎_elim
       (λ z. omega (arith, ap (span s) (up_to_none s l e d z)))
-      (λ nz. omega (arith, ap (span s) (up_to_some s l e d nz), link_span s l (s.part e 0 d) leaf, part-is nz))
+      (λ nz. omega (arith, ap (span s) (up_to_some s l e d nz), link_span s l (s.part e 0 d) leaf, part_is nz))
       (cases_eq d 0)
 
 -- ---- on cells
@@ -153,7 +153,7 @@ module _ {E A S : Type 0} (k : Meaning E A S) (laws : Laws k) (a : List (Cell E 
     tied = tt;
   }
 
-  module _ (inside : place < span (shape k) t) (some : parted_cost (shape k) t place ≤ p.free) (lefts rights : List ℕ) (lefts-size : length lefts ≡ 64) (rights-size : length rights ≡ 64)
+  module _ (inside : place < span (shape k) t) (some : parted_cost (shape k) t place ≤ p.free) (lefts rights : List ℕ) (lefts_size : length lefts ≡ 64) (rights_size : length rights ≡ 64)
       (found : Found) (w : Walked k a root place lefts rights found) (c : Cell E S) (at : slice_get a found.cell ≡ Some c) where
     cell_is : w.cell ≡ c
     cell_is = let o : Some c ≡ Some w.cell = sym at ∙ w.at in cc
@@ -229,7 +229,7 @@ module _ {E A S : Type 0} (k : Meaning E A S) (laws : Laws k) (a : List (Cell E 
       room = omega (arith, owns.few);
       live = good.right_live;
       climbs = record {
-        size = lefts-size;
+        size = lefts_size;
         fits = omega (arith, table_short);
         steps = ls;
         passed = w.to_left;
@@ -242,7 +242,7 @@ module _ {E A S : Type 0} (k : Meaning E A S) (laws : Laws k) (a : List (Cell E 
 
     climbs_a : Climbable k true a owns.rest (mirror U) rights found.rights (rebuilt_cost rs (mirror U))
     climbs_a = record {
-      size = rights-size;
+      size = rights_size;
       fits = omega (arith, table_short);
       steps = rs;
       passed = w.to_right;

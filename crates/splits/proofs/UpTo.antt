@@ -80,9 +80,9 @@ module _ {E A S : Type 0} (k : Meaning E A S) (a : List (Cell E S)) (p : Pool) (
       pub up_holds : Holds k a p (left ∷ i ∷ []) (2 ^ 24)
       up_holds = record { rest = owns.rest; arena = with_none owns.rest owns.arena; few = omega (arith, owns.few) }
 
-      module _ (part : E) (part-is : part ≡ k.part e 0 d) where
+      module _ (part : E) (part_is : part ≡ k.part e 0 d) where
         up_is : up_to (shape k) L e d ≡ link L part (tree a i)
-        up_is = up_to_some (shape k) L e d nz ∙ ap (λ f. link L f leaf) (sym part-is) ∙ ap (link L part) (sym none_is)
+        up_is = up_to_some (shape k) L e d nz ∙ ap (λ f. link L f leaf) (sym part_is) ∙ ap (link L part) (sym none_is)
 
         cost_is : up_to_cost L d ≡ link_cost L (tree a i)
         cost_is = up_to_cost_some L d nz ∙ ap (link_cost L) (sym none_is)
@@ -94,7 +94,7 @@ module _ {E A S : Type 0} (k : Meaning E A S) (a : List (Cell E S)) (p : Pool) (
         }
 
         pub up_whole : (own : S) → own ≡ total k (k.atoms part) → Whole k (record { element = part; own = own })
-        up_whole own is = record { lawful = subst (Lawful k) (sym part-is) first_lawful; owns = is }
+        up_whole own is = record { lawful = subst (Lawful k) (sym part_is) first_lawful; owns = is }
 
         pub up_some : up_to_cost L d ≤ p.free → link_cost L (tree a i) ≤ p.free
         up_some some = omega (arith, cost_is)
@@ -109,15 +109,15 @@ module _ {E A S : Type 0} (k : Meaning E A S) (a : List (Cell E S)) (p : Pool) (
 
 -- ---- what is left of the element
 
-module _ {E A S : Type 0} (k : Meaning E A S) (laws : Laws k) (e : E) (d extent : ℕ) (lawful : Lawful k e) (inside : d < length (k.atoms e)) (extent-is : extent ≡ length (k.atoms e)) where
+module _ {E A S : Type 0} (k : Meaning E A S) (laws : Laws k) (e : E) (d extent : ℕ) (lawful : Lawful k e) (inside : d < length (k.atoms e)) (extent_is : extent ≡ length (k.atoms e)) where
   pub rest_within : Within k e d (extent - d)
-  rest_within = record { some = omega (arith, extent-is); inside = omega (arith, extent-is) }
+  rest_within = record { some = omega (arith, extent_is); inside = omega (arith, extent_is) }
 
   pub rest_lawful : Lawful k (k.part e d (extent - d))
   rest_lawful = part_lawful k laws e d (extent - d) lawful rest_within
 
   pub rest_is : (d ≡ 0 → ⊥) → k.part e d (extent - d) ≡ on_from (shape k) e d
-  rest_is nz = ap (λ (n : ℕ). k.part e d (n - d)) extent-is ∙ sym (on_from_some (shape k) leaf e d nz)
+  rest_is nz = ap (λ (n : ℕ). k.part e d (n - d)) extent_is ∙ sym (on_from_some (shape k) leaf e d nz)
 
 pub none_owns : {S : Type 0} (s : S) → None ≡ Some s → ⊥
 none_owns s e = let z : ◌≡◌ {A = ℕ} 0 1 = cc in omega arith

@@ -81,7 +81,7 @@ module _ {E A S : Type 0} (k : Meaning E A S) (pieces : List Piece) (from len to
       pub stopped_cut : (f : SessionFault) → Declines k (not_taken k (list b t.root) q.free from len) b q c w f → Stops k (length a) pieces from len to f
       stopped_cut f d = at_cut b q t.root same arena_b is_b d.because
 
-      module _ (r : Removal) (outs : TakesOut k b q t.root from len c w r) (same-c : length c ≡ length a) where
+      module _ (r : Removal) (outs : TakesOut k b q t.root from len c w r) (same_c : length c ≡ length a) where
         arena_c : Arena k c w (r.left ∷ r.taken ∷ t.root ∷ [])
         arena_c = (outs.each (t.root ∷ []) arena_b).arena
 
@@ -105,7 +105,7 @@ module _ {E A S : Type 0} (k : Meaning E A S) (pieces : List Piece) (from len to
 
         module _ (d : List (Cell E S)) (x : Pool) where
           pub stopped_paste : (f : SessionFault) → Declines k (not_put k (list c r.left) (list c r.taken) w.free to) c w d x f → Stops k (length a) pieces from len to f
-          stopped_paste f no-put = at_paste c w t.root r.left r.taken same-c arena_c root_c left_c range_c no-put.because
+          stopped_paste f no_put = at_paste c w t.root r.left r.taken same_c arena_c root_c left_c range_c no_put.because
 
           module _ (moved : ℕ) (puts : PutsIn k c w r.left to r.taken d x moved) where
             stay_d : (y : ℕ) → Among (r.left ∷ r.taken ∷ t.root ∷ []) y → list d y ≡ list c y

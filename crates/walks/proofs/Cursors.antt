@@ -216,15 +216,15 @@ module _ {E A S : Type 0} (k : Meaning E A S) (laws : Laws k) (cells : List (Cel
     nested_here = subst (λ is. Nested cells (most + 1) is ready.spare) filled ready.nested
 
     pub ready_named : here_cell < length cells
-    ready_named = let top-used = nested_last cells (most + 1) below here_cell ready.spare nested_here in some_in cells here_cell top-used.cell top-used.at
+    ready_named = let top_used = nested_last cells (most + 1) below here_cell ready.spare nested_here in some_in cells here_cell top_used.cell top_used.at
 
     module _ (c : Cell E S) (at : slice_get cells here_cell ≡ Some c) where
       pub ready_live : 0 < c.refs
       ready_live =
-          let top-used = nested_last cells (most + 1) below here_cell ready.spare nested_here in
-          let used = top-used.at in
-          let same : top-used.cell ≡ c = cc in
-          subst (λ (x : Cell E S). 0 < x.refs) same top-used.live
+          let top_used = nested_last cells (most + 1) below here_cell ready.spare nested_here in
+          let used = top_used.at in
+          let same : top_used.cell ≡ c = cc in
+          subst (λ (x : Cell E S). 0 < x.refs) same top_used.live
 
       abbrev behind_list : List E
       behind_list = elements (tree cells c.right) ++ pending cells below

@@ -71,7 +71,7 @@ module _ {E A S : Type 0} (k : Meaning E A S) (cells : List (Cell E S)) (root p 
   pub walked_reads : (c : Cell E S) (first second : ℕ) → slice_get cells r.cell ≡ Some c → first ≡ k.first c.element → second ≡ k.second c.element
       → Reads k cells root p (record { first = first; second = second; offset = r.offset; count = r.lefts + r.rights + 1 })
   walked_reads c first second at first_is second_is =
-      let at-walked = w.at in
+      let at_walked = w.at in
       let same : w.cell ≡ c = cc in
       record {
         element = c.element;

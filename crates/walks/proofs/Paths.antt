@@ -106,7 +106,7 @@ module _ {E A S : Type 0} (k : Meaning E A S) (cells : List (Cell E S)) (sound :
 
     here_is : OnPath k cells i p [] → (span (shape k) (tree cells c.left) ≤ p) × (p < span (shape k) (tree cells c.left) + length (k.atoms c.element))
     here_is on =
-        let on-at = on.at in
+        let on_at = on.at in
         let same : on.cell ≡ c = cc in
         let before = ap (λ (d : Cell E S). span (shape k) (tree cells d.left)) same in
         let own = ap (λ (d : Cell E S). length (k.atoms d.element)) same in
@@ -124,7 +124,7 @@ module _ {E A S : Type 0} (k : Meaning E A S) (cells : List (Cell E S)) (sound :
   begun : (i p : ℕ) (path : List Bool) → OnPath k cells i p path → (o : Option (Cell E S)) → slice_get cells i ≡ o → ((c : Cell E S) × (slice_get cells i ≡ Some c))
   begun i p path on None at =
       let lost = lost_stays i path at in
-      let on-at = on.at in
+      let on_at = on.at in
       let no : ◌≡◌ {A = ℕ} 0 1 = cc in
       absurd (omega arith)
   begun i p path on (Some c) at = (c, at)

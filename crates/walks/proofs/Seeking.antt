@@ -131,7 +131,7 @@ module _ {E A S : Type 0} (k : Meaning E A S) (laws : Laws k) (tally : S → ℕ
 
       pub sought_right : (r b : ℕ) → rest ≡ tally_of k tally left_atoms + tally_of k tally own_atoms + r → b ≡ base + span (shape k) L + length own_atoms
           → Sought k tally cells root t c.right r b (passed + 1)
-      sought_right r b rest_is b-is =
+      sought_right r b rest_is b_is =
           let front' : List A = s.front ++ (left_atoms ++ own_atoms) in
           let listed' = listed_here ∙ to_right s.front left_atoms own_atoms right_atoms s.behind in
           let few' : Few k front' = few_left k front' (right_atoms ++ s.behind) (subst (Few k) listed' (few_tree k cells sound root live)) in
@@ -179,7 +179,7 @@ module _ {E A S : Type 0} (k : Meaning E A S) (laws : Laws k) (tally : S → ℕ
 
       pub sought_found : (past n place count : ℕ) → cell_count cells root ≤ most → rest ≡ tally_of k tally left_atoms + past → Passes k tally own_atoms past n
           → place ≡ base + span (shape k) L + n → count ≡ passed + 1 → Finds k tally cells root t (record { place = place; count = count })
-      sought_found past n place count few rest_is p place_is count-is =
+      sought_found past n place count few rest_is p place_is count_is =
           let front' : List A = s.front ++ left_atoms in
           let listed' = listed_here ∙ to_own s.front left_atoms own_atoms right_atoms s.behind in
           let few_all : Few k (front' ++ (own_atoms ++ (right_atoms ++ s.behind))) = subst (Few k) listed' (few_tree k cells sound root live) in

@@ -69,11 +69,11 @@ module _ {A : Type 0} where
     pub range_parted : (at len skipped rest taken : ℕ) → at < length left + length own → length left < at + len
         → skipped ≡ at - length left → rest ≡ len - (length left - at) → taken ≡ min rest (length own - skipped)
         → take len (drop at (left ++ (own ++ right))) ≡ drop (min at (length left)) left ++ (take taken (drop skipped own) ++ take (rest - taken) right)
-    range_parted at len skipped rest taken early late skipped-is rest_is taken_is =
+    range_parted at len skipped rest taken early late skipped_is rest_is taken_is =
         let own_left : length (drop skipped own) ≡ length own - skipped = length-drop skipped own in
         let left_left : length (drop at left) ≡ length left - at = length-drop at left in
         let d : drop (at - length left) (own ++ right) ≡ drop skipped own ++ right =
-        ap (λ (n : ℕ). drop n (own ++ right)) (sym skipped-is) ∙ drop-append-le skipped own right (omega arith) in
+        ap (λ (n : ℕ). drop n (own ++ right)) (sym skipped_is) ∙ drop-append-le skipped own right (omega arith) in
         let n : len - length (drop at left) ≡ rest = omega arith in
         let whole : take len (drop at left) ≡ drop at left = take_all len (drop at left) (omega arith) in
         let t : min rest (length (drop skipped own)) ≡ taken = omega arith in

@@ -48,13 +48,13 @@ module _ {E A S : Type 0} (k : Meaning E A S) (laws : Laws k) (cells : List (Cel
   -- ---- the tail
 
   pub tail_none : (link from : ℕ) (sum : S) → sum ≡ k.none → from ≡ span (shape k) (tree cells link) → sum ≡ total k (drop from (meant k (tree cells link)))
-  tail_none link from sum sum-none is = sum-none ∙ ap (total k) (sym nothing)
+  tail_none link from sum sum_none is = sum_none ∙ ap (total k) (sym nothing)
     where
       nothing : drop from (meant k (tree cells link)) ≡ []
       nothing = drop_all from (meant k (tree cells link)) (omega (arith, meant_span k (tree cells link)))
 
   pub tail_start : (link from : ℕ) (sum : S) → Live cells link → from ≤ span (shape k) (tree cells link) → sum ≡ k.none → TailAt k cells link from link from sum
-  tail_start link from sum live inside sum-none = record { live = live; inside = inside; behind = []; listed = sym (append-nil _); summed = sum-none }
+  tail_start link from sum live inside sum_none = record { live = live; inside = inside; behind = []; listed = sym (append-nil _); summed = sum_none }
 
   module _ (link from cell at : ℕ) (sum : S) (live : Live cells link) (t : TailAt k cells link from cell at sum) where
     pub tail_named : 0 < at → cell < length cells
@@ -64,10 +64,10 @@ module _ {E A S : Type 0} (k : Meaning E A S) (laws : Laws k) (cells : List (Cel
     tail_few = subst (Few k) t.listed (few_drop k from (meant k (tree cells link)) (few_tree k cells sound link live))
 
     pub tail_whole : (s r : S) → at ≡ 0 → s ≡ sum_at k cells cell → JoinOf k cells s sum r → r ≡ total k (drop from (meant k (tree cells link)))
-    tail_whole s r none s-is asked =
+    tail_whole s r none s_is asked =
         let listed' : drop from (meant k (tree cells link)) ≡ meant k (tree cells cell) ++ t.behind = t.listed ∙ ap (λ (n : ℕ). drop n (meant k (tree cells cell)) ++ t.behind) none in
         let few' : Few k (meant k (tree cells cell) ++ t.behind) = subst (λ (n : ℕ). Few k (drop n (meant k (tree cells cell)) ++ t.behind)) none tail_few in
-        join_sum k laws (meant k (tree cells cell)) t.behind s sum r few' (s-is ∙ sum_is k laws cells sound cell t.live) t.summed asked ∙ ap (total k) (sym listed')
+        join_sum k laws (meant k (tree cells cell)) t.behind s sum r few' (s_is ∙ sum_is k laws cells sound cell t.live) t.summed asked ∙ ap (total k) (sym listed')
 
     module _ (c : Cell E S) (is : slice_get cells cell ≡ Some c) where
       abbrev L : List A
@@ -115,7 +115,7 @@ module _ {E A S : Type 0} (k : Meaning E A S) (laws : Laws k) (cells : List (Cel
 
       pub tail_own : (past m : ℕ) (right s p r : S) → at ≡ span (shape k) (tree cells c.left) + past → past < length M → m ≡ length M - past
           → p ≡ total k (take m (drop past M)) → right ≡ sum_at k cells c.right → JoinOf k cells right sum s → JoinOf k cells p s r → r ≡ total k (drop from (meant k (tree cells link)))
-      tail_own past m right s p r at-is low m-is p_is right_is asked asked' =
+      tail_own past m right s p r at_is low m_is p_is right_is asked asked' =
           let listed' : drop from (meant k (tree cells link)) ≡ drop past M ++ (R ++ t.behind) =
           t.listed ∙ ap (λ l. drop at l ++ t.behind) here_meant ∙ ap (λ l. l ++ t.behind) (drop_own L M R at past (omega (arith, left_length)) (omega arith))
           ∙ append_assoc (drop past M) R t.behind in
@@ -124,7 +124,7 @@ module _ {E A S : Type 0} (k : Meaning E A S) (laws : Laws k) (cells : List (Cel
           ∙ ap (total k) (sym listed')
 
       pub tail_right : (q : ℕ) → at ≡ span (shape k) (tree cells c.left) + length M + q → TailAt k cells link from c.right q sum
-      tail_right q at-is = record {
+      tail_right q at_is = record {
         live = (node_good k cells sound cell c is t.live).right_live;
         inside = omega (arith, t.inside, node_span k cells sound cell c is t.live);
         behind = t.behind;
@@ -135,7 +135,7 @@ module _ {E A S : Type 0} (k : Meaning E A S) (laws : Laws k) (cells : List (Cel
   -- ---- the head
 
   pub head_start : (link len : ℕ) (sum : S) → Live cells link → 0 < len → len ≤ span (shape k) (tree cells link) → sum ≡ k.none → HeadAt k cells link len link len sum
-  head_start link len sum live some inside sum-none = record { live = live; some = some; inside = inside; before = []; listed = refl; summed = sum-none }
+  head_start link len sum live some inside sum_none = record { live = live; some = some; inside = inside; before = []; listed = refl; summed = sum_none }
 
   module _ (link len cell rest : ℕ) (sum : S) (live : Live cells link) (h : HeadAt k cells link len cell rest sum) where
     pub head_named : cell < length cells
@@ -145,10 +145,10 @@ module _ {E A S : Type 0} (k : Meaning E A S) (laws : Laws k) (cells : List (Cel
     head_few xs is = subst (Few k) is (few_take k len (meant k (tree cells link)) (few_tree k cells sound link live))
 
     pub head_whole : (s r : S) → rest ≡ span (shape k) (tree cells cell) → s ≡ sum_at k cells cell → JoinOf k cells sum s r → r ≡ total k (take len (meant k (tree cells link)))
-    head_whole s r all s-is asked =
+    head_whole s r all s_is asked =
         let listed' : take len (meant k (tree cells link)) ≡ h.before ++ meant k (tree cells cell) =
         h.listed ∙ ap (λ l. h.before ++ l) (take_all rest (meant k (tree cells cell)) (omega (arith, meant_span k (tree cells cell)))) in
-        join_sum k laws h.before (meant k (tree cells cell)) sum s r (head_few _ listed') h.summed (s-is ∙ sum_is k laws cells sound cell h.live) asked ∙ ap (total k) (sym listed')
+        join_sum k laws h.before (meant k (tree cells cell)) sum s r (head_few _ listed') h.summed (s_is ∙ sum_is k laws cells sound cell h.live) asked ∙ ap (total k) (sym listed')
 
     module _ (c : Cell E S) (is : slice_get cells cell ≡ Some c) where
       abbrev L' : List A
@@ -233,7 +233,7 @@ module _ {E A S : Type 0} (k : Meaning E A S) (laws : Laws k) (cells : List (Cel
       }
 
       pub fork_right : (q : ℕ) → at ≡ span (shape k) (tree cells c.left) + length (k.atoms c.element) + q → ForkAt k cells root from len c.right q
-      fork_right q at-is = record {
+      fork_right q at_is = record {
         live = (node_good k cells sound cell c is f.live).right_live;
         inside = omega (arith, f.inside, node_span k cells sound cell c is f.live);
         listed = f.listed ∙ ap (λ l. take len (drop at l)) fork_meant
@@ -246,7 +246,7 @@ module _ {E A S : Type 0} (k : Meaning E A S) (laws : Laws k) (cells : List (Cel
 
   module _ (root from len : ℕ) (r : Fork) (f : Forked k cells root from len r) (c : Cell E S) (is : slice_get cells r.cell ≡ Some c) where
     same_cell : f.cell ≡ c
-    same_cell = let f-is = f.at in cc
+    same_cell = let f_is = f.at in cc
 
     pub parted_late : span (shape k) (tree cells c.left) < r.from + len
     parted_late = subst (λ (x : Cell E S). span (shape k) (tree cells x.left) < r.from + len) same_cell f.not_before
@@ -265,7 +265,7 @@ module _ {E A S : Type 0} (k : Meaning E A S) (laws : Laws k) (cells : List (Cel
         → right ≡ total k (take (rest - taken) (meant k (tree cells c.right)))
         → JoinOf k cells middle right behind → JoinOf k cells left behind all
         → all ≡ total k (take len (drop from (meant k (tree cells root))))
-    parted_sum skipped rest taken left middle right behind all live skipped-is rest_is taken_is left_is middle-is right_is asked asked' =
+    parted_sum skipped rest taken left middle right behind all live skipped_is rest_is taken_is left_is middle_is right_is asked asked' =
         let L = meant k (tree cells c.left) in
         let M = k.atoms c.element in
         let R = meant k (tree cells c.right) in
@@ -279,5 +279,5 @@ module _ {E A S : Type 0} (k : Meaning E A S) (laws : Laws k) (cells : List (Cel
         let few' = subst (Few k) listed' (few_take k len _ (few_drop k from _ (few_tree k cells sound root live))) in
         let left_is' : left ≡ total k D = left_is ∙ ap (λ (n : ℕ). total k (drop (min r.from n) L)) (sym left_length) in
         join_sum k laws D (take taken (drop skipped M) ++ take (rest - taken) R) left behind all few' left_is'
-        (join_sum k laws (take taken (drop skipped M)) (take (rest - taken) R) middle right behind (few_right k D _ few') middle-is right_is asked) asked'
+        (join_sum k laws (take taken (drop skipped M)) (take (rest - taken) R) middle right behind (few_right k D _ few') middle_is right_is asked) asked'
         ∙ ap (total k) (sym listed')

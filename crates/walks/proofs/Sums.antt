@@ -80,18 +80,18 @@ module _ {E A S : Type 0} (k : Meaning E A S) where
 
     -- the summary that is asked of two parts, joined
     pub join_sum : (xs ys : List A) (s t r : S) → Few k (xs ++ ys) → s ≡ total k xs → t ≡ total k ys → (Joinable k s t → r ≡ k.plus s t) → r ≡ total k (xs ++ ys)
-    join_sum xs ys s t r f s-is t_is asked =
+    join_sum xs ys s t r f s_is t_is asked =
         let both : Joinable k s t = record {
           left = xs;
           right = ys;
-          sums_left = record { atomic = all_left (IsAtom k) xs ys f.atomic; summed = s-is };
+          sums_left = record { atomic = all_left (IsAtom k) xs ys f.atomic; summed = s_is };
           sums_right = record { atomic = all_right (IsAtom k) xs ys f.atomic; summed = t_is };
           few = omega (arith, f.few, length-append xs ys);
         } in
-        asked both ∙ ap (λ x. k.plus x t) s-is ∙ ap (k.plus (total k xs)) t_is ∙ sym (parts_total xs ys f)
+        asked both ∙ ap (λ x. k.plus x t) s_is ∙ ap (k.plus (total k xs)) t_is ∙ sym (parts_total xs ys f)
 
     -- the part that is the whole element
     pub whole_sum : (e : E) (d m : ℕ) (s : S) → s ≡ total k (k.atoms e) → Within k e d m → m ≡ length (k.atoms e) → s ≡ total k (take m (drop d (k.atoms e)))
-    whole_sum e d m s s-is within all =
+    whole_sum e d m s s_is within all =
         let first : d ≡ 0 = omega (arith, within.inside) in
-        s-is ∙ ap (total k) (sym (ap (λ (n : ℕ). take m (drop n (k.atoms e))) first ∙ take_all m (k.atoms e) (omega arith)))
+        s_is ∙ ap (total k) (sym (ap (λ (n : ℕ). take m (drop n (k.atoms e))) first ∙ take_all m (k.atoms e) (omega arith)))
