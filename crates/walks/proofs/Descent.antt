@@ -15,7 +15,7 @@ use Rattle.walks.specs.Paths.{PathTo}
 use Rattle.walks.specs.Walks.{Table, Leads, Walked}
 use Rattle.walks.proofs.Nodes.{inside_named, node_live, node_good, node_is, node_span, node_count}
 use Rattle.walks.proofs.Nestings.{nested_push, nested_less}
-use Rattle.walks.proofs.Paths.{Comes, comes_none, comes_left, comes_right, comes_on, path_only}
+use Rattle.walks.proofs.Paths.{Comes, comes_none, comes_left, comes_right, comes_on, path_counted}
 use Rattle.walks.proofs.Tables.{table_length, table_last}
 
 -- the first n places of a table of 64 are filled, the others as found
@@ -181,12 +181,4 @@ module _ {E A S : Type 0} (k : Meaning E A S) (cells : List (Cell E S)) (sound :
       pub arrive_path : (q : ℕ) → Live cells root → at ≡ span (shape k) L + q → q < length (k.atoms c.element) → PathTo k cells root p (l + r + 1) cell
       arrive_path q live is_at low =
           let on = comes_on k cells root cell (l + r) d.base c e d.comes p q (node_live k cells sound cell c e d.live) (omega (arith, d.reached)) low in
-          record {
-            by_path = record {
-              path = d.comes.path;
-              on_path = on;
-              only = λ other off. path_only k cells sound other d.comes.path root p live off on;
-              counted_cells = omega (arith, d.comes.long);
-            };
-            ended = d.comes.leads;
-          }
+          record { by_path = path_counted k cells sound d.comes p (l + r + 1) live on refl; ended = d.comes.leads }

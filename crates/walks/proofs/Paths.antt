@@ -6,7 +6,7 @@ use Rattle.balance.specs.Ways.{span}
 use Rattle.cells.specs.declared.cell.Cell.{Cell}
 use Rattle.cells.specs.Cells.{shape, tree, linked, Live, Sound}
 use Rattle.cells.specs.Reach.{child, follow}
-use Rattle.walks.specs.Paths.{skipped, start_of, OnPath}
+use Rattle.walks.specs.Paths.{skipped, start_of, OnPath, ByPath}
 use Rattle.walks.proofs.Nodes.{node_good, node_span}
 
 -- a path of n sides leads to i, and b atoms lie before the tree under i
@@ -153,3 +153,13 @@ module _ {E A S : Type 0} (k : Meaning E A S) (cells : List (Cell E S)) (sound :
       ap (λ l. true ∷ l)
       (path_only path other b.0.right (p - skipped k cells true (Some b.0)) (node_good k cells sound i b.0 b.1 live).right_live
       (on_rest i p b.0 b.1 live true path on) (on_rest i p b.0 b.1 live true other off))
+
+  -- the path on which a walk came is the only one that holds the place, and the cells on it are counted
+  abbrev pub path_counted : {root cell n base : ℕ} (comes : Comes k cells root cell n base) (p count : ℕ) → Live cells root → OnPath k cells root p comes.path → count ≡ n + 1
+      → ByPath k cells root p count
+  path_counted {root = root} comes p count live on is = record {
+    path = comes.path;
+    on_path = on;
+    only = λ other off. path_only other comes.path root p live off on;
+    counted_cells = omega (arith, comes.long);
+  }

@@ -14,7 +14,7 @@ use Rattle.walks.specs.Paths.{ByPath}
 use Rattle.walks.specs.Tallying.{Passes, Finds}
 use Rattle.walks.proofs.Nodes.{inside_named, node_live, node_good, node_is, node_span, node_meant}
 use Rattle.walks.proofs.Descent.{leads_by}
-use Rattle.walks.proofs.Paths.{Comes, comes_none, comes_left, comes_right, comes_on, path_only}
+use Rattle.walks.proofs.Paths.{Comes, comes_none, comes_left, comes_right, comes_on, path_counted}
 use Rattle.walks.proofs.Sums.{Few, few_left, few_right, few_tree}
 use Rattle.walks.proofs.Halving.{tally_of, tally_append, tally_some, passes_in}
 
@@ -204,9 +204,4 @@ module _ {E A S : Type 0} (k : Meaning E A S) (laws : Laws k) (tally : S → ℕ
       pub sought_path : (n place count : ℕ) → n < length own_atoms → place ≡ base + span (shape k) L + n → count ≡ passed + 1 → ByPath k cells root place count
       sought_path n place count low place_is count_is =
           let on = comes_on k cells root cell passed base c at s.comes place n (node_live k cells sound cell c at s.live) (omega arith) low in
-          record {
-            path = s.comes.path;
-            on_path = on;
-            only = λ other off. path_only k cells sound other s.comes.path root place live off on;
-            counted_cells = omega (arith, s.comes.long);
-          }
+          path_counted k cells sound s.comes place count live on count_is
