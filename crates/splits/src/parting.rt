@@ -13,10 +13,10 @@ ghost use Rattle.cells.specs.Cells.{shape, tree};
 ghost use Rattle.splits.specs.Owning.{Owns};
 ghost use Rattle.splits.specs.Splitting.{behind, loose_roots, Tied, AllTied, Splits, Leaves, Divided};
 
-use crate::loosening::{NONE, from_on, item_of, up_to};
+use crate::loosening::{from_on, item_of, up_to};
 use crate::siding::{before_of, behind_of};
 use crate::split::{Loose, Split};
-use cells::{Cell, Pool, cell_at, release, retain};
+use cells::{Cell, NONE, Pool, cell_at, release, retain};
 use kinds::Kind;
 use links::link;
 use walks::{descend, width_at};
@@ -48,25 +48,11 @@ pub fn part<K: Kind>(
     let mut rights = [0; 64];
     let found = descend(kind, cells, root, place, &mut lefts, &mut rights);
     let c = cell_at(cells, found.cell);
-    let behind = behind_of(kind, cells, pool, c.right, &lefts, found.lefts);
-    let before = before_of(
-        kind,
-        cells,
-        pool,
-        c.left,
-        c.element,
-        found.offset,
-        &rights,
-        found.rights,
-    );
-    let whole = Loose {
-        element: c.element,
-        own: Some(c.own),
-        root: behind,
-    };
+    let (to_left, to_right) = (&lefts[..found.lefts], &rights[..found.rights]);
+    let loose = behind_of(kind, cells, pool, c, found.offset, to_left);
     Split {
-        before,
-        loose: Some(from_on(kind, whole, found.offset)),
+        before: before_of(kind, cells, pool, c, found.offset, to_right),
+        loose: Some(loose),
     }
 }
 
@@ -94,12 +80,7 @@ pub fn part_behind<K: Kind>(
     let mut rights = [0; 64];
     let found = descend(kind, cells, root, place, &mut lefts, &mut rights);
     let c = cell_at(cells, found.cell);
-    let whole = Loose {
-        element: c.element,
-        own: Some(c.own),
-        root: behind_of(kind, cells, pool, c.right, &lefts, found.lefts),
-    };
-    Some(from_on(kind, whole, found.offset))
+    Some(behind_of(kind, cells, pool, c, found.offset, &lefts[..found.lefts]))
 }
 
 // A loose element and the tree behind it, taken apart at a place. Both are given away.
@@ -130,10 +111,7 @@ pub fn part_loose<K: Kind>(
     let deeper = part(kind, cells, pool, loose.root, place - own);
     release(kind, cells, pool, loose.root);
     let before = link(kind, cells, pool, NONE, item_of(kind, loose), deeper.before);
-    Split {
-        before,
-        loose: deeper.loose,
-    }
+    Split { before, ..deeper }
 }
 
 // What lies behind a place, taken apart once more.
