@@ -11,7 +11,7 @@ ghost use Rattle.balance.specs.Levels.{most};
 ghost use Rattle.balance.specs.Costs.{parted_cost, parted_rest_cost};
 ghost use Rattle.cells.specs.Cells.{shape, tree};
 ghost use Rattle.splits.specs.Owning.{Owns};
-ghost use Rattle.splits.specs.Splitting.{behind, loose_roots, Tied, AllTied, Splits, Leaves, Divided};
+ghost use Rattle.splits.specs.Splitting.{behind, loose_roots, AllTied, Splits, Leaves, Divided, Partable};
 
 use crate::loosening::{from_on, item_of, up_to};
 use crate::siding::{before_of, behind_of};
@@ -91,11 +91,7 @@ pub fn part_loose<K: Kind>(
     loose: Loose<K::Element, K::Summary>,
     place: u32,
 ) -> Split<K::Element, K::Summary>
-    requires owns { Owns (K.meaning kind.now) cells.old pool.old (loose.root ∷ []) [] (2 ^ 19) }
-    requires tied { Tied (K.meaning kind.now) loose }
-    requires few { count (tree cells.old loose.root) < most }
-    requires short { length ((K.meaning kind.now).atoms loose.element) + span (shape (K.meaning kind.now)) (tree cells.old loose.root) ≤ limit }
-    requires some { parted_rest_cost (shape (K.meaning kind.now)) (more loose.element (tree cells.old loose.root)) place ≤ pool.old.free }
+    requires { Partable (K.meaning kind.now) cells.old pool.old loose place }
     ensures { Splits (K.meaning kind.now) cells.old pool.old (loose.root ∷ []) cells.new pool.new result
         (parted_rest (shape (K.meaning kind.now)) (more loose.element (tree cells.old loose.root)) place)
         (parted_rest_cost (shape (K.meaning kind.now)) (more loose.element (tree cells.old loose.root)) place) }

@@ -1,5 +1,4 @@
 use Rattle.std.proofs.Common.{arith}
-use Rattle.cells.specs.Cells.{tree}
 use Rattle.cells.proofs.Lists.{some_in}
 use Rattle.splits.proofs.Parts.{root_live, root_few, room, splits_beyond, asks_behind, asks_before, splits_inside}
 use Rattle.splits.proofs.InLists.{divides_tree}
@@ -14,7 +13,7 @@ retain-requires g c = record { holds = (c.args.pool.now, room c.requires.owns); 
 pub returns-then-place-width_at : goal.returns-then-place-width_at
 returns-then-place-width_at g c =
     let splits = splits_beyond c.requires.owns c.args.place (omega (arith, c.width_at.ensures, c.if-place-width_at.true)) c.retain.new.cells c.retain.ensures.retains in
-    record { splits = splits; lists = divides_tree (g.K.Kind.meaning c.args.kind.now) c.retain.new.cells _ c.args.place (tree c.args.cells.now c.args.root) splits.before_is splits.rest_is }
+    record { splits = splits; lists = divides_tree _ _ splits }
 
 pub descend-found-requires : goal.descend-found-requires
 descend-found-requires g c = record {
@@ -40,4 +39,4 @@ pub returns : goal.returns
 returns g c =
     let behind = c.behind_of-loose.ensures in
     let splits = splits_inside c.requires.owns (g.K.Kind.laws c.args.kind.now) c.requires.few c.descend-found.ensures.walked c.cell_at-c.ensures (omega (arith, c.width_at.ensures, c.if-place-width_at.false)) behind.regrown behind.tied behind.element c.before_of.ensures in
-    record { splits = splits; lists = divides_tree (g.K.Kind.meaning c.args.kind.now) c.before_of.new.cells _ c.args.place (tree c.args.cells.now c.args.root) splits.before_is splits.rest_is }
+    record { splits = splits; lists = divides_tree _ _ splits }

@@ -1,5 +1,4 @@
-use Rattle.std.proofs.Common.{Some, None, arith}
-use Rattle.cells.specs.Cells.{tree}
+use Rattle.std.proofs.Common.{arith}
 use Rattle.cells.proofs.Lists.{some_in}
 use Rattle.splits.proofs.Parts.{root_live, root_few, leaves_beyond, asks_behind, leaves_inside}
 use Rattle.splits.proofs.InLists.{leaves_tree}
@@ -11,7 +10,7 @@ width_at-requires g c = record { sound = c.requires.owns.arena.sound; live = roo
 pub returns-then-place-width_at : goal.returns-then-place-width_at
 returns-then-place-width_at g c =
     let leaves = leaves_beyond c.requires.owns c.args.place (omega (arith, c.width_at.ensures, c.if-place-width_at.true)) in
-    record { leaves = leaves; lists = leaves_tree (g.K.Kind.meaning c.args.kind.now) c.args.cells.now c.args.place None (tree c.args.cells.now c.args.root) leaves.rest_is }
+    record { leaves = leaves; lists = leaves_tree _ _ leaves }
 
 pub descend-found-requires : goal.descend-found-requires
 descend-found-requires g c = record {
@@ -32,4 +31,4 @@ pub returns : goal.returns
 returns g c =
     let behind = c.behind_of.ensures in
     let leaves = leaves_inside c.requires.owns (g.K.Kind.laws c.args.kind.now) c.requires.few c.descend-found.ensures.walked c.cell_at-c.ensures (omega (arith, c.width_at.ensures, c.if-place-width_at.false)) behind.regrown behind.tied behind.element in
-    record { leaves = leaves; lists = leaves_tree (g.K.Kind.meaning c.args.kind.now) c.behind_of.new.cells c.args.place (Some c.behind_of.result) (tree c.args.cells.now c.args.root) leaves.rest_is }
+    record { leaves = leaves; lists = leaves_tree _ _ leaves }
