@@ -4,16 +4,13 @@
 
 mod answers;
 mod cursor;
-mod look;
 mod places;
 mod ranges;
 mod rounds;
 mod tallies;
+mod view;
 
-pub use answers::{Found, Located, Reading};
+pub use answers::{Found, Located, Reading, Walk};
 pub use cursor::Cursor;
-pub use look::width_at;
-pub use places::{descend, read};
-pub use ranges::overview;
-pub use rounds::{advance, begin};
-pub use tallies::find;
+pub use rounds::advance;
+pub use view::View;

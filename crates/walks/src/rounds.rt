@@ -10,7 +10,7 @@ ghost use Rattle.walks.specs.Nesting.{Nested};
 ghost use Rattle.walks.specs.Spines.{Spine};
 
 use crate::cursor::Cursor;
-use crate::places::descend;
+use crate::view::View;
 use cells::{Cell, cell_at, count_at};
 use kinds::Kind;
 
@@ -51,30 +51,27 @@ fn from_offset<K: Kind>(kind: &K, element: K::Element, d: u32) -> K::Element
     }
 }
 
-// A cursor over the `len` atoms from the place `from` on of the tree under `root`.
-pub fn begin<K: Kind>(
-    kind: &K,
-    cells: &[Cell<K::Element, K::Summary>],
-    root: u32,
-    from: u32,
-    len: u32,
-) -> Cursor
-    requires sound { Sound (K.meaning kind.now) cells.now }
-    requires live { Live cells.now root }
-    requires some { 1 ≤ len }
-    requires within { from + len ≤ span (shape (K.meaning kind.now)) (tree cells.now root) }
-    requires few { cell_count cells.now root ≤ most }
-    ensures { Begins (K.meaning kind.now) cells.now root from len result }
-{
-    let mut table = [0; 64];
-    let mut rights = [0; 64];
-    let found = descend(kind, cells, root, from, &mut table, &mut rights);
-    table[found.lefts] = found.cell;
-    Cursor {
-        table,
-        depth: found.lefts + 1,
-        offset: found.offset,
-        left: len,
+impl<'a, K: Kind> View<'a, K> {
+    // A cursor over the `len` atoms from the place `from` on.
+    pub fn cursor(&self, from: u32, len: u32) -> Cursor
+        requires some { 1 ≤ len }
+        requires within { from + len ≤ span (shape (K.meaning self.now.kind)) (tree self.now.cells self.now.root) }
+        requires few { cell_count self.now.cells self.now.root ≤ most }
+        ensures { Begins (K.meaning self.now.kind) self.now.cells self.now.root from len result }
+    {
+        // What stands of the view is known once a field of it is named.
+        let _ = &self.cells;
+        let walk = self.descend(from);
+        let depth = walk.lefts.len();
+        let mut table = [0; 64];
+        table[..depth].copy_from_slice(walk.lefts.as_slice());
+        table[depth] = walk.found.cell;
+        Cursor {
+            table,
+            depth: depth + 1,
+            offset: walk.found.offset,
+            left: len,
+        }
     }
 }
 
