@@ -1,5 +1,5 @@
 -- A tree taken apart: a walk down, and up again on both sides.
-use Rattle.std.proofs.Common.{◌≡◌, ℕ, ◌+◌, ◌-◌, ◌^◌, ◌<◌, ◌≤◌, Bool, true, false, ltb, List, [], ◌∷◌, length, take, Some, None, Option, sym, refl, ap, ◌∙◌, subst, ⊎_elim, arith, le-ltb, lt-ltb}
+use Rattle.std.proofs.Common.{◌≡◌, ℕ, ◌+◌, ◌-◌, ◌^◌, ◌<◌, ◌≤◌, Bool, true, false, ltb, List, [], ◌∷◌, length, Some, None, Option, sym, refl, ap, ◌∙◌, subst, ⊎_elim, arith, le-ltb, lt-ltb}
 use Rattle.std.specs.List.{slice_get}
 use Rattle.std.proofs.lemmas.Bool.{cases_eq}
 use Rattle.faults.specs.Limits.{limit}
@@ -183,12 +183,6 @@ module _ {E A S : Type 0} {k : Meaning E A S} {a : List (Cell E S)} {p : Pool} {
     abbrev rs : List (E × Tree E)
     rs = passed_right w.steps
 
-    abbrev to_left : List ℕ
-    to_left = take found.lefts lefts
-
-    abbrev to_right : List ℕ
-    to_right = take found.rights rights
-
     way_is : way (shape k) t place ≡ walked w.steps (here L e R d)
     way_is = w.is ∙ ap (λ c. walked w.steps (here (tree a c.left) c.element (tree a c.right) d)) cell_is
 
@@ -217,7 +211,7 @@ module _ {E A S : Type 0} {k : Meaning E A S} {a : List (Cell E S)} {p : Pool} {
         let y = ap (rest_cost (shape k)) way_is ∙ rest_cost_walked (shape k) w.steps (here L e R d) (on_from (shape k) e d) R (here_rest (shape k) L e R d) in
         omega (arith, cost_inside (shape k) t place inside, here_costs (shape k) L e R d, ap (λ b. rebuilt_cost rs (mirror b)) (here_before (shape k) L e R d))
 
-    pub asks_behind : parted_cost (shape k) t place ≤ p.free → Behind k a p c d to_left
+    pub asks_behind : parted_cost (shape k) t place ≤ p.free → Behind k a p c d lefts
     asks_behind some = record {
       rest = owns.rest;
       arena = owns.arena;
@@ -228,24 +222,24 @@ module _ {E A S : Type 0} {k : Meaning E A S} {a : List (Cell E S)} {p : Pool} {
       climbs = record {
         steps = ls;
         passed = w.to_left;
-        reached = table_reached owns.arena false to_left ls w.to_left;
+        reached = table_reached owns.arena false lefts ls w.to_left;
         few = omega (arith, counts);
         short = omega (arith, spans, t_short);
         some = omega (arith, cost_is);
       };
     }
 
-    climbs_a : Climbable k true a owns.rest (mirror U) to_right (rebuilt_cost rs (mirror U))
+    climbs_a : Climbable k true a owns.rest (mirror U) rights (rebuilt_cost rs (mirror U))
     climbs_a = record {
       steps = rs;
       passed = w.to_right;
-      reached = table_reached owns.arena true to_right rs w.to_right;
+      reached = table_reached owns.arena true rights rs w.to_right;
       few = omega (arith, counts, mirror_count U, up_to_count (shape k) L e R d);
       short = omega (arith, spans, t_short, mirror_span (shape k) U, up_to_span (shape k) L e R d (first_extent k laws e d good.lawful holding_inside) (omega (arith, holding_inside)));
       some = omega arith;
     }
 
-    module _ {b : List (Cell E S)} {q : Pool} {l : Loose E S} (grown : Regrown k false a p [] R 0 to_left b q l.root) (tied : Tied k l) (element : l.element ≡ on_from (shape k) e d) where
+    module _ {b : List (Cell E S)} {q : Pool} {l : Loose E S} (grown : Regrown k false a p [] R 0 lefts b q l.root) (tied : Tied k l) (element : l.element ≡ on_from (shape k) e d) where
       abbrev r : ℕ
       r = l.root
 
@@ -278,7 +272,7 @@ module _ {E A S : Type 0} {k : Meaning E A S} {a : List (Cell E S)} {p : Pool} {
       abbrev V : Tree E
       V = up_to (shape k) (tree b c.left) e d
 
-      pub asks_before : parted_cost (shape k) t place ≤ p.free → Before k b q c d to_right
+      pub asks_before : parted_cost (shape k) t place ≤ p.free → Before k b q c d rights
       asks_before some = record {
         rest = r ∷ owns.rest;
         arena = moved.arena;
@@ -291,7 +285,7 @@ module _ {E A S : Type 0} {k : Meaning E A S} {a : List (Cell E S)} {p : Pool} {
             (omega (arith, some, cost_is, moved.free, ap (λ l. up_to_cost l d) left_is)));
       }
 
-      module _ {z : List (Cell E S)} {o : Pool} {x : ℕ} (grown' : Regrown k true b q [] (mirror V) (up_to_cost (tree b c.left) d) to_right z o x) where
+      module _ {z : List (Cell E S)} {o : Pool} {x : ℕ} (grown' : Regrown k true b q [] (mirror V) (up_to_cost (tree b c.left) d) rights z o x) where
         two : Grows k true b q [] z o x (rebuilt link rs (mirror V)) (up_to_cost (tree b c.left) d + rebuilt_cost rs (mirror V))
         two = grown' rs (table_on moved climbs_a rs w.to_right)
 

@@ -1,6 +1,6 @@
 // Taking a tree apart at a place. Between two elements nothing is divided; an element around the place becomes its two
 // parts, of which the second is left loose: most often it is linked elsewhere, or divided once more.
-ghost use Rattle.std.specs.Prelude.{◌≡◌, ◌+◌, ◌^◌, ◌<◌, ◌≤◌, [], ◌∷◌, length};
+ghost use Rattle.std.specs.Prelude.{◌≡◌, ◌+◌, ◌^◌, ◌<◌, ◌≤◌, [], ◌∷◌, length, MatchOption};
 ghost use Rattle.faults.specs.Limits.{limit};
 ghost use Rattle.kinds.specs.Places.{after};
 ghost use Rattle.balance.specs.Trees.{count, elements};
@@ -9,7 +9,8 @@ ghost use Rattle.balance.specs.Ways.{span};
 ghost use Rattle.balance.specs.Edits.{more, listed, tail, parted, parted_rest};
 ghost use Rattle.balance.specs.Levels.{most};
 ghost use Rattle.balance.specs.Costs.{parted_cost, parted_rest_cost};
-ghost use Rattle.cells.specs.Cells.{shape, tree};
+ghost use Rattle.cells.specs.Cells.{shape, tree, cell_count, Live, Sound};
+ghost use Rattle.walks.specs.Walks.{Walked};
 ghost use Rattle.splits.specs.Owning.{Owns};
 ghost use Rattle.splits.specs.Splitting.{behind, loose_roots, AllTied, Splits, Leaves, Divided, Partable};
 
@@ -19,7 +20,29 @@ use crate::split::{Loose, Split};
 use cells::{Cell, NONE, Pool, cell_at, release, retain};
 use kinds::Kind;
 use links::link;
-use walks::{descend, width_at};
+use walks::{View, Walk};
+
+// The walk to a place of the tree under `root`; none where it is the end or beyond.
+fn walk_to<K: Kind>(
+    kind: &K,
+    cells: &[Cell<K::Element, K::Summary>],
+    root: u32,
+    place: u32,
+) -> Option<Walk>
+    requires sound { Sound (K.meaning kind.now) cells.now }
+    requires live { Live cells.now root }
+    requires few { cell_count cells.now root ≤ most }
+    ensures { MatchOption result (span (shape (K.meaning kind.now)) (tree cells.now root) ≤ place)
+        (λ w. (place < span (shape (K.meaning kind.now)) (tree cells.now root))
+        × Walked (K.meaning kind.now) cells.now root place w.lefts.items w.rights.items w.found) }
+{
+    let view = View::new(kind, cells, root);
+    if place < view.width() {
+        Some(view.descend(place))
+    } else {
+        None
+    }
+}
 
 // The tree of a lent root, taken apart at a place; at its end or beyond, all of it lies before.
 pub fn part<K: Kind>(
@@ -37,21 +60,18 @@ pub fn part<K: Kind>(
         (parted_cost (shape (K.meaning kind.now)) (tree cells.old root) place) }
     ensures lists { Divided (K.meaning kind.now) cells.new result (elements (tree cells.old root)) place }
 {
-    if place >= width_at(kind, cells, root) {
+    let Some(walk) = walk_to(kind, cells, root, place) else {
         retain(kind, cells, root);
         return Split {
             before: root,
             loose: None,
         };
-    }
-    let mut lefts = [0; 64];
-    let mut rights = [0; 64];
-    let found = descend(kind, cells, root, place, &mut lefts, &mut rights);
-    let c = cell_at(cells, found.cell);
-    let (to_left, to_right) = (&lefts[..found.lefts], &rights[..found.rights]);
-    let loose = behind_of(kind, cells, pool, c, found.offset, to_left);
+    };
+    let c = cell_at(cells, walk.found.cell);
+    let d = walk.found.offset;
+    let loose = behind_of(kind, cells, pool, c, d, walk.lefts.as_slice());
     Split {
-        before: before_of(kind, cells, pool, c, found.offset, to_right),
+        before: before_of(kind, cells, pool, c, d, walk.rights.as_slice()),
         loose: Some(loose),
     }
 }
@@ -73,14 +93,10 @@ pub fn part_behind<K: Kind>(
         (parted_cost (shape (K.meaning kind.now)) (tree cells.old root) place) }
     ensures lists { listed (behind cells.new result) ≡ after (K.meaning kind.now) place (elements (tree cells.old root)) }
 {
-    if place >= width_at(kind, cells, root) {
-        return None;
-    }
-    let mut lefts = [0; 64];
-    let mut rights = [0; 64];
-    let found = descend(kind, cells, root, place, &mut lefts, &mut rights);
-    let c = cell_at(cells, found.cell);
-    Some(behind_of(kind, cells, pool, c, found.offset, &lefts[..found.lefts]))
+    let walk = walk_to(kind, cells, root, place)?;
+    let c = cell_at(cells, walk.found.cell);
+    let d = walk.found.offset;
+    Some(behind_of(kind, cells, pool, c, d, walk.lefts.as_slice()))
 }
 
 // A loose element and the tree behind it, taken apart at a place. Both are given away.
