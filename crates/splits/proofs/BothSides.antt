@@ -1,5 +1,5 @@
 -- The two sides of a place.
-use Rattle.std.proofs.Common.{◌≡◌, ℕ, ◌+◌, ◌^◌, ◌≤◌, Bool, true, false, List, [], ◌∷◌, ◌++◌, Some, sym, ap, ◌∙◌, subst, arith}
+use Rattle.std.proofs.Common.{◌≡◌, ℕ, ◌+◌, ◌^◌, ◌≤◌, Bool, true, false, List, [], ◌∷◌, ◌++◌, sym, ap, ◌∙◌, subst, arith}
 use Rattle.faults.specs.Limits.{limit}
 use Rattle.kinds.specs.Kinds.{Meaning}
 use Rattle.balance.specs.Trees.{Tree, count, mirror}
@@ -12,13 +12,12 @@ use Rattle.balance.proofs.Mirrors.{mirror_count, mirror_span}
 use Rattle.cells.specs.declared.cell.Cell.{Cell}
 use Rattle.cells.specs.declared.pool.Pool.{Pool}
 use Rattle.cells.specs.Cells.{shape, tree, seen}
-use Rattle.cells.specs.References.{Holds}
 use Rattle.cells.specs.Moves.{Moved, Moves, Retains}
 use Rattle.cells.proofs.Staying.{occurs_append}
 use Rattle.cells.proofs.Moving.{moves_then, seen_stays}
 use Rattle.walks.specs.Walks.{Table}
 use Rattle.splits.specs.Owning.{Owns}
-use Rattle.splits.specs.Splitting.{Tied, Grows}
+use Rattle.splits.specs.Splitting.{Grows}
 use Rattle.splits.specs.Regrowing.{Climbable, Growable, Regrown}
 use Rattle.splits.specs.Sides.{Behind, Before}
 use Rattle.splits.proofs.Tables.{reached_stays, stays_reached, live_reached, table_stays}
@@ -43,12 +42,6 @@ module _ {E A S : Type 0} {k : Meaning E A S} {a b : List (Cell E S)} {p q : Poo
   }
 
 module _ {E A S : Type 0} {k : Meaning E A S} {a : List (Cell E S)} {p : Pool} {c : Cell E S} {d : ℕ} {is : List ℕ} (h : Behind k a p c d is) where
-  pub behind_room : Holds k a p [] (2 ^ 30)
-  behind_room = record { rest = h.rest; arena = h.arena; few = omega (arith, h.room) }
-
-  pub behind_tied : (root : ℕ) → Tied k (record { element = c.element; own = Some c.own; root = root })
-  behind_tied root = record { lawful = h.whole.lawful; owns = λ s is. let same : c.own ≡ s = cc in sym same ∙ h.whole.owns }
-
   module _ {b : List (Cell E S)} (one : Retains k a c.right b) where
     kept : Moved k a p h.rest b p (c.right ∷ []) 0
     kept = one.each p h.rest h.arena
@@ -64,21 +57,17 @@ module _ {E A S : Type 0} {k : Meaning E A S} {a : List (Cell E S)} {p : Pool} {
       climbs = climbs_on kept h.climbs (tree b c.right) (sym same) p.free (omega arith);
     }
 
-    pub behind_regrown : (z : List (Cell E S)) (o : Pool) (r s : ℕ) → s ≡ r → Regrown k false b p (c.right ∷ []) (tree b c.right) 0 is z o r → Regrown k false a p [] (tree a c.right) 0 is z o s
-    behind_regrown z o r s root_is regrown ss passed =
+    pub behind_regrown : (z : List (Cell E S)) (o : Pool) (r : ℕ) → Regrown k false b p (c.right ∷ []) (tree b c.right) 0 is z o r → Regrown k false a p [] (tree a c.right) 0 is z o r
+    behind_regrown z o r regrown ss passed =
         let grows = regrown ss (table_on kept h.climbs ss passed) in
         let cost : 0 + (0 + rebuilt_cost ss (tree b c.right)) ≡ 0 + rebuilt_cost ss (tree a c.right) = omega (arith, ap (rebuilt_cost ss) same) in
-        subst (λ s. Grows k false a p [] z o s (rebuilt link ss (tree a c.right)) (0 + rebuilt_cost ss (tree a c.right))) (sym root_is)
-        (record {
+        record {
           each = subst (Moves k a p [] z o (r ∷ [])) cost
               (moves_then k a p [] b p (c.right ∷ []) 0 (one.each p) (c.right ∷ []) [] (λ i. omega arith) z o (r ∷ []) (0 + rebuilt_cost ss (tree b c.right)) grows.each (r ∷ []) (λ i. omega arith));
           tree_is = grows.tree_is ∙ ap (rebuilt link ss) same;
-        })
+        }
 
 module _ {E A S : Type 0} {k : Meaning E A S} {a : List (Cell E S)} {p : Pool} {f : Cell E S} {d : ℕ} {is : List ℕ} (h : Before k a p f d is) where
-  pub before_room : Holds k a p [] (2 ^ 30)
-  before_room = record { rest = h.rest; arena = h.arena; few = omega (arith, h.room) }
-
   abbrev U : Tree E
   U = up_to (shape k) (tree a f.left) f.element d
 

@@ -17,9 +17,6 @@ use Rattle.links.proofs.Sides.{arena_turned}
 use Rattle.splits.specs.Splitting.{Grows}
 
 module _ {E A S : Type 0} {k : Meaning E A S} {a : List (Cell E S)} {p : Pool} {left right : ℕ} (holds : Holds k a p (left ∷ right ∷ []) (2 ^ 24)) where
-  pub holds_turned : Holds k a p (right ∷ left ∷ []) (2 ^ 24)
-  holds_turned = record { rest = holds.rest; arena = arena_turned k a p left right holds.rest holds.arena; few = holds.few }
-
   module _ {flip : Bool} (is : flip ≡ true) where
     pub linkable_turned : {e : E} → Linkable k (seen flip a left) e (seen flip a right) → Linkable k (tree a right) e (tree a left)
     linkable_turned {e} linkable =
@@ -41,10 +38,7 @@ module _ {E A S : Type 0} {k : Meaning E A S} {a : List (Cell E S)} {p : Pool} {
     }
 
   module _ {flip : Bool} (is : flip ≡ false) where
-    pub linkable_plain : {e : E} → Linkable k (seen flip a left) e (seen flip a right) → Linkable k (tree a left) e (tree a right)
-    linkable_plain {e} linkable = subst (λ f. Linkable k (seen f a left) e (seen f a right)) is linkable
-
-    pub cost_plain : link_cost (seen flip a left) (seen flip a right) ≡ link_cost (tree a left) (tree a right)
+    cost_plain : link_cost (seen flip a left) (seen flip a right) ≡ link_cost (tree a left) (tree a right)
     cost_plain = ap (λ f. link_cost (seen f a left) (seen f a right)) is
 
     pub grows_plain : (e : E) (b : List (Cell E S)) (q : Pool) (r : ℕ) → ((rs : List ℕ) → Arena k a p (left ∷ right ∷ rs) → Yields k false a p rs b q r (link (tree a left) e (tree a right)) (link_cost (tree a left) (tree a right)))

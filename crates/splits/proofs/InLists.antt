@@ -4,8 +4,8 @@ use Rattle.std.specs.List.{AllByRecursion}
 use Rattle.kinds.specs.Kinds.{Meaning, Laws, Lawful}
 use Rattle.kinds.specs.Places.{after}
 use Rattle.balance.specs.Trees.{Tree, elements}
-use Rattle.balance.specs.Edits.{Rest, listed, joined, parted, parted_rest, merge}
-use Rattle.balance.proofs.Edits.{parted_divides, parted_rest_divides, joined_elements, merge_elements}
+use Rattle.balance.specs.Edits.{Rest, listed, parted, parted_rest, merge}
+use Rattle.balance.proofs.Edits.{parted_divides, parted_rest_divides, merge_elements}
 use Rattle.cells.specs.declared.cell.Cell.{Cell}
 use Rattle.cells.specs.declared.pool.Pool.{Pool}
 use Rattle.cells.specs.Cells.{shape, tree}
@@ -30,8 +30,5 @@ pub leaves_tree : {E A S : Type 0} {k : Meaning E A S} {a : List (Cell E S)} {p 
 leaves_tree {k = k} t place leaves = ap listed leaves.rest_is ∙ (parted_divides (shape k) t place).aft ∙ same_after k place (elements t)
 
 module _ {E A S : Type 0} {k : Meaning E A S} {a : List (Cell E S)} {p : Pool} {xs : List ℕ} {b : List (Cell E S)} {q : Pool} {r n : ℕ} where
-  pub joins_lists : (t : Tree E) (s : Rest E) → Grows k false a p xs b q r (joined t s) n → elements (tree b r) ≡ elements t ++ listed s
-  joins_lists t s grows = ap elements grows.tree_is ∙ joined_elements t s
-
   pub merges_lists : Laws k → (t u : Tree E) → AllByRecursion (Lawful k) (elements u) → Grows k false a p xs b q r (merge (shape k) t u) n → elements (tree b r) ≡ elements t ++ elements u
   merges_lists laws t u lawful grows = ap elements grows.tree_is ∙ merge_elements (shape k) t u (all_solid k laws (elements u) lawful)

@@ -13,7 +13,7 @@ use Rattle.balance.proofs.Ways.{span_extents}
 use Rattle.cells.specs.declared.cell.Cell.{Cell}
 use Rattle.cells.specs.declared.pool.Pool.{Pool}
 use Rattle.cells.specs.Cells.{shape, tree}
-use Rattle.cells.specs.References.{Arena, Holds}
+use Rattle.cells.specs.References.{Arena}
 use Rattle.cells.specs.Moves.{Yields}
 use Rattle.cells.proofs.Moving.{moves_none}
 use Rattle.links.specs.Sitting.{Linkable}
@@ -25,9 +25,6 @@ unfolding joined joined_cost
 joined_none k a p left = record { each = moves_none k a p (left ∷ []); tree_is = refl }
 
 module _ {E A S : Type 0} {k : Meaning E A S} {a : List (Cell E S)} {p : Pool} {left right : ℕ} (owns : Owns k a p (left ∷ right ∷ []) [] (2 ^ 20)) where
-  pub join_holds : Holds k a p (left ∷ right ∷ []) (2 ^ 24)
-  join_holds = record { rest = owns.rest; arena = owns.arena; few = omega (arith, owns.few) }
-
   module _ {e f : E} (e_is : e ≡ f) where
     pub join_linkable : count (tree a left) + count (tree a right) < most → span (shape k) (tree a left) + extents (shape k) (f ∷ elements (tree a right)) ≤ limit → Linkable k (tree a left) e (tree a right)
     join_linkable few short = record { few = few; short = omega (arith, short, span_extents (shape k) (tree a right), ap (shape k).extent e_is) }

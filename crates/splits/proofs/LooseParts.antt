@@ -151,9 +151,6 @@ module _ {E A S : Type 0} {k : Meaning E A S} {a : List (Cell E S)} {p : Pool} {
     spans : span (shape k) s.before + extents (shape k) (listed s.rest) ≡ span (shape k) t
     spans = parted_extents k laws t d (tree_lawful k a h.owns.arena.sound l.root root_live)
 
-    pub deeper_owns : Owns k a p [] (l.root ∷ []) (2 ^ 20)
-    deeper_owns = record { rest = owned; arena = h.owns.arena; kept = λ j among. omega arith; few = omega (arith, h.owns.few) }
-
     pub deeper_some : n ≤ p.free
     deeper_some = omega (arith, h.some, cost_is)
 

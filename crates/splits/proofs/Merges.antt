@@ -63,9 +63,6 @@ module _ {E A S : Type 0} {k : Meaning E A S} {a : List (Cell E S)} {p : Pool} {
   pub right_lawful : AllByRecursion (Lawful k) (elements R)
   right_lawful = tree_lawful k a owns.arena.sound right right_live
 
-  pub merge_owns : Owns k a p [] (right ∷ []) (2 ^ 20)
-  merge_owns = record { rest = left ∷ owns.rest; arena = owns.arena; kept = λ i among. let h = owns.kept i among in omega arith; few = omega (arith, owns.few) }
-
   pub merge_some : merge_cost (shape k) L R ≤ p.free → n ≤ p.free
   merge_some some = omega (arith, some, merge_cost_is (shape k) L R)
 

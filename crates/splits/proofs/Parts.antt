@@ -20,7 +20,7 @@ use Rattle.cells.specs.declared.cell.Cell.{Cell}
 use Rattle.cells.specs.declared.pool.Pool.{Pool}
 use Rattle.cells.specs.Cells.{shape, cell_count, tree, linked, Live, Good, Sound, referred}
 use Rattle.cells.specs.Reach.{Among, Alike, Stays, Reached}
-use Rattle.cells.specs.References.{Arena, Holds}
+use Rattle.cells.specs.References.{Arena}
 use Rattle.cells.specs.Moves.{Moved, Moves, Retains}
 use Rattle.cells.proofs.Names.{hit_same, hit_other}
 use Rattle.cells.proofs.Arenas.{rooted}
@@ -75,14 +75,14 @@ module _ {E : Type 0} (s : Shape E) (l : Tree E) (e : E) (r : Tree E) (d : ℕ) 
   -- the first part is no more than the element
   pub up_to_count : count (up_to s l e d) ≤ count l + 1
   up_to_count = ⊎_elim
-      (λ z. omega (arith, ap count (up_to_none s l e d z)))
-      (λ nz. omega (arith, ap count (up_to_some s l e d nz), link_count l (s.part e 0 d) leaf))
+      (λ z. omega (arith, ap count (up_to_none s e d l z)))
+      (λ nz. omega (arith, ap count (up_to_some s e d l nz), link_count l (s.part e 0 d) leaf))
       (cases_eq d 0)
 
   pub up_to_span : ((d ≡ 0 → ⊥) → s.extent (s.part e 0 d) ≡ d) → d ≤ s.extent e → span s (up_to s l e d) ≤ span s l + s.extent e
   up_to_span part_is h = ⊎_elim
-      (λ z. omega (arith, ap (span s) (up_to_none s l e d z)))
-      (λ nz. omega (arith, ap (span s) (up_to_some s l e d nz), link_span s l (s.part e 0 d) leaf, part_is nz))
+      (λ z. omega (arith, ap (span s) (up_to_none s e d l z)))
+      (λ nz. omega (arith, ap (span s) (up_to_some s e d l nz), link_span s l (s.part e 0 d) leaf, part_is nz))
       (cases_eq d 0)
 
 -- ---- on cells
@@ -124,9 +124,6 @@ module _ {E A S : Type 0} {k : Meaning E A S} {a : List (Cell E S)} {p : Pool} {
 
   pub root_few : count t ≤ most → cell_count a root ≤ most
   root_few few = omega (arith, (known k a owns.arena.sound root root_live).counts)
-
-  pub room : Holds k a p [] (2 ^ 30)
-  room = record { rest = owns.rest; arena = owns.arena; few = omega (arith, owns.few) }
 
   module _ (place : ℕ) where
     -- at the end or beyond

@@ -1,5 +1,5 @@
 -- One cell more.
-use Rattle.std.proofs.Common.{◌≡◌, ℕ, ◌+◌, ◌^◌, ◌<◌, ◌≤◌, Bool, List, [], ◌∷◌, length, Some, sym, ap, ◌∙◌, subst, arith}
+use Rattle.std.proofs.Common.{◌≡◌, ℕ, ◌+◌, ◌^◌, ◌<◌, ◌≤◌, Bool, List, [], ◌∷◌, Some, sym, ap, ◌∙◌, subst, arith}
 use Rattle.std.specs.List.{slice_get}
 use Rattle.kinds.specs.Kinds.{Meaning}
 use Rattle.balance.specs.Trees.{Tree}
@@ -11,7 +11,6 @@ use Rattle.cells.specs.declared.pool.Pool.{Pool}
 use Rattle.cells.specs.Cells.{seen, far, Live, Good, Whole}
 use Rattle.cells.specs.References.{Arena, Holds}
 use Rattle.cells.specs.Moves.{Moves, Retains}
-use Rattle.cells.proofs.Lists.{some_in}
 use Rattle.cells.proofs.Names.{hit_same}
 use Rattle.cells.proofs.Arenas.{rerooted}
 use Rattle.cells.proofs.Moving.{moves_none, moves_then, seen_stays}
@@ -22,12 +21,6 @@ use Rattle.splits.specs.Regrowing.{Joinable, Grown}
 use Rattle.splits.proofs.Tables.{passed_is}
 
 module _ {E A S : Type 0} {k : Meaning E A S} {flip : Bool} {a : List (Cell E S)} {p : Pool} {low i : ℕ} (j : Joinable k flip a p low i) where
-  pub named : i < length a
-  named = some_in a i j.passed.cell j.passed.at
-
-  pub room : Holds k a p [] (2 ^ 30)
-  room = record { rest = low ∷ j.rest; arena = j.arena; few = omega (arith, j.room) }
-
   module _ {c : Cell E S} (at : slice_get a i ≡ Some c) where
     live : 0 < c.refs
     live =

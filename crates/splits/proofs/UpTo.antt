@@ -17,7 +17,7 @@ use Rattle.balance.proofs.Ways.{link_span}
 use Rattle.cells.specs.declared.cell.Cell.{Cell}
 use Rattle.cells.specs.declared.pool.Pool.{Pool}
 use Rattle.cells.specs.Cells.{shape, tree}
-use Rattle.cells.specs.References.{Arena, Holds}
+use Rattle.cells.specs.References.{Arena}
 use Rattle.cells.specs.Moves.{Moved, Moves, Yields}
 use Rattle.cells.proofs.Arenas.{rerooted}
 use Rattle.cells.proofs.Moving.{moves_none}
@@ -26,14 +26,14 @@ use Rattle.splits.specs.Owning.{Owns}
 use Rattle.splits.specs.Splitting.{Grows}
 use Rattle.splits.proofs.Nones.{none, none_far, owning_none, none_leaf}
 
-module _ {E : Type 0} (s : Shape E) (l : Tree E) (e : E) (d : ℕ) where
-  pub up_to_none : d ≡ 0 → up_to s l e d ≡ l
+module _ {E : Type 0} (s : Shape E) (e : E) (d : ℕ) where
+  pub up_to_none : (l : Tree E) → d ≡ 0 → up_to s l e d ≡ l
   unfolding up_to
-  up_to_none z = test_true (eqb d 0) _ _ (eq-eqb d 0 z)
+  up_to_none l z = test_true (eqb d 0) _ _ (eq-eqb d 0 z)
 
-  pub up_to_some : (d ≡ 0 → ⊥) → up_to s l e d ≡ link l (s.part e 0 d) leaf
+  pub up_to_some : (l : Tree E) → (d ≡ 0 → ⊥) → up_to s l e d ≡ link l (s.part e 0 d) leaf
   unfolding up_to
-  up_to_some nz = test_false (eqb d 0) _ _ (ne_eqb d 0 nz)
+  up_to_some l nz = test_false (eqb d 0) _ _ (ne_eqb d 0 nz)
 
   pub on_from_none : d ≡ 0 → on_from s e d ≡ e
   unfolding on_from
@@ -55,7 +55,7 @@ up_to_cost_some l d nz = test_false (eqb d 0) _ _ (ne_eqb d 0 nz)
 pub grows_none : {E A S : Type 0} (k : Meaning E A S) (a : List (Cell E S)) (p : Pool) (left : ℕ) (e : E) (d : ℕ) → d ≡ 0 → Grows k false a p (left ∷ []) a p left (up_to (shape k) (tree a left) e d) (up_to_cost (tree a left) d)
 grows_none k a p left e d z = record {
   each = subst (Moves k a p (left ∷ []) a p (left ∷ [])) (sym (up_to_cost_none (tree a left) d z)) (moves_none k a p (left ∷ []));
-  tree_is = sym (up_to_none (shape k) (tree a left) e d z);
+  tree_is = sym (up_to_none (shape k) e d (tree a left) z);
 }
 
 pub first_within : {E A S : Type 0} (k : Meaning E A S) (e : E) (d : ℕ) → d < length (k.atoms e) → (d ≡ 0 → ⊥) → Within k e 0 d
@@ -71,9 +71,6 @@ module _ {E A S : Type 0} {k : Meaning E A S} {a : List (Cell E S)} {p : Pool} {
   none_is : tree a none ≡ leaf
   none_is = none_leaf k a p none none_far (left ∷ owns.rest) owns.arena
 
-  pub up_holds : Holds k a p (left ∷ none ∷ []) (2 ^ 24)
-  up_holds = record { rest = owns.rest; arena = with_none owns.rest owns.arena; few = omega (arith, owns.few) }
-
   module _ (e : E) (d : ℕ) (nz : d ≡ 0 → ⊥) where
     cost_is : up_to_cost L d ≡ link_cost L (tree a none)
     cost_is = up_to_cost_some L d nz ∙ ap (link_cost L) (sym none_is)
@@ -83,7 +80,7 @@ module _ {E A S : Type 0} {k : Meaning E A S} {a : List (Cell E S)} {p : Pool} {
 
     module _ {part : E} (part_is : part ≡ k.part e 0 d) where
       up_is : up_to (shape k) L e d ≡ link L part (tree a none)
-      up_is = up_to_some (shape k) L e d nz ∙ ap (λ f. link L f leaf) (sym part_is) ∙ ap (link L part) (sym none_is)
+      up_is = up_to_some (shape k) e d L nz ∙ ap (λ f. link L f leaf) (sym part_is) ∙ ap (link L part) (sym none_is)
 
       pub up_linkable : count (up_to (shape k) L e d) ≤ most → span (shape k) (up_to (shape k) L e d) ≤ limit → Linkable k L part (tree a none)
       up_linkable few short = record {
@@ -93,10 +90,9 @@ module _ {E A S : Type 0} {k : Meaning E A S} {a : List (Cell E S)} {p : Pool} {
 
       pub grows_some : (b : List (Cell E S)) (q : Pool) (r : ℕ) → ((rs : List ℕ) → Arena k a p (left ∷ none ∷ rs) → Yields k false a p rs b q r (link L part (tree a none)) (link_cost L (tree a none)))
           → Grows k false a p (left ∷ []) b q r (up_to (shape k) L e d) (up_to_cost L d)
-      unfolding up_holds
       grows_some b q r yields = record {
         each = λ rs arena. subst (Moved k a p rs b q (r ∷ [])) (sym cost_is) (yields rs (with_none rs arena)).moved;
-        tree_is = (yields owns.rest up_holds.arena).tree_is ∙ sym up_is;
+        tree_is = (yields owns.rest (with_none owns.rest owns.arena)).tree_is ∙ sym up_is;
       }
 
 -- ---- what is left of the element
@@ -109,7 +105,7 @@ module _ {E A S : Type 0} {k : Meaning E A S} (laws : Laws k) {e : E} (lawful : 
   rest_lawful = part_lawful k laws e d (extent - d) lawful rest_within
 
   pub rest_is : (d ≡ 0 → ⊥) → k.part e d (extent - d) ≡ on_from (shape k) e d
-  rest_is nz = ap (λ (n : ℕ). k.part e d (n - d)) extent_is ∙ sym (on_from_some (shape k) leaf e d nz)
+  rest_is nz = ap (λ (n : ℕ). k.part e d (n - d)) extent_is ∙ sym (on_from_some (shape k) e d nz)
 
 pub none_owns : {S : Type 0} (s : S) → None ≡ Some s → ⊥
 none_owns s e = let z : ◌≡◌ {A = ℕ} 0 1 = cc in omega arith

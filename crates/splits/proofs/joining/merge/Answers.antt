@@ -1,10 +1,9 @@
-use Rattle.std.proofs.Common.{arith}
-use Rattle.splits.proofs.Merges.{merge_owns, merge_some, split_owned, split_few, join_owns, join_few, join_short, join_some, merged, right_lawful}
+use Rattle.splits.proofs.Merges.{merge_some, split_owned, split_few, join_owns, join_few, join_short, join_some, merged, right_lawful}
 use Rattle.splits.proofs.InLists.{merges_lists}
 use Rattle.splits.proofs.joining.merge.Goals as goal
 
-pub part-split-requires : goal.part-split-requires
-part-split-requires g c = record { owns = merge_owns c.requires.owns; few = omega (arith, c.requires.few); some = merge_some c.requires.owns c.requires.some }
+pub part-split-requires-clause-some : goal.part-split-requires-clause-some
+part-split-requires-clause-some g c = merge_some c.requires.owns c.requires.some
 
 pub release-requires : goal.release-requires
 release-requires g c =
@@ -22,7 +21,8 @@ join-requires g c =
       some = join_some c.requires.owns c.requires.few split c.release.ensures c.requires.some;
     }
 
-pub returns : goal.returns
-returns g c =
-    let grows = merged c.requires.owns c.requires.few c.part-split.ensures.splits c.release.ensures c.join.ensures.grows in
-    record { grows = grows; lists = merges_lists (g.K.Kind.laws c.args.kind.now) _ _ (right_lawful c.requires.owns) grows }
+pub returns-clause-grows : goal.returns-clause-grows
+returns-clause-grows g c = merged c.requires.owns c.requires.few c.part-split.ensures.splits c.release.ensures c.join.ensures.grows
+
+pub returns-clause-lists : goal.returns-clause-lists
+returns-clause-lists g c = merges_lists (g.K.Kind.laws c.args.kind.now) _ _ (right_lawful c.requires.owns) (returns-clause-grows g c)

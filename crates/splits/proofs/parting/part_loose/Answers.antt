@@ -1,5 +1,5 @@
 use Rattle.std.proofs.Common.{arith}
-use Rattle.splits.proofs.LooseParts.{up_owns, up_few, up_short, up_some, splits_inside, deeper_owns, deeper_some, drop_owned, drop_few, link_holds, link_linkable, link_some, splits_past}
+use Rattle.splits.proofs.LooseParts.{up_owns, up_few, up_short, up_some, splits_inside, deeper_some, drop_owned, drop_few, link_holds, link_linkable, link_some, splits_past}
 use Rattle.splits.proofs.parting.part_loose.Goals as goal
 
 pub up_to-before-requires : goal.up_to-before-requires
@@ -10,19 +10,13 @@ up_to-before-requires g c =
     let low = c.if-place-own.true in
     record { owns = up_owns h laws own low; lawful = h.tied.lawful; inside = omega (arith, own); few = up_few h laws own low; short = up_short h laws own low; some = up_some h laws own low }
 
-pub from_on-requires : goal.from_on-requires
-from_on-requires g c = record { tied = c.requires.tied; inside = omega (arith, c.extent-own.ensures c.requires.tied.lawful, c.if-place-own.true) }
-
 pub returns-then-place-own : goal.returns-then-place-own
 returns-then-place-own g c =
     let loose = c.from_on.ensures in
     splits_inside c.requires (g.K.Kind.laws c.args.kind.now) (c.extent-own.ensures c.requires.tied.lawful) c.if-place-own.true c.up_to-before.ensures loose.tied loose.element loose.root
 
-pub part-deeper-requires : goal.part-deeper-requires
-part-deeper-requires g c =
-    let laws = g.K.Kind.laws c.args.kind.now in
-    let own = c.extent-own.ensures c.requires.tied.lawful in
-    record { owns = deeper_owns c.requires laws own c.if-place-own.false; few = omega (arith, c.requires.few); some = deeper_some c.requires laws own c.if-place-own.false }
+pub part-deeper-requires-clause-some : goal.part-deeper-requires-clause-some
+part-deeper-requires-clause-some g c = deeper_some c.requires (g.K.Kind.laws c.args.kind.now) (c.extent-own.ensures c.requires.tied.lawful) c.if-place-own.false
 
 pub release-requires : goal.release-requires
 release-requires g c =

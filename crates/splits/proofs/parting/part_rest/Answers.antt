@@ -11,10 +11,11 @@ part_loose-requires g c = record {
   some = rw c.in-Some.is at c.requires.some;
 }
 
-pub returns-in-None : goal.returns-in-None
-returns-in-None g c =
-    let splits = nothing_splits c.requires.owns.arena c.args.place in
-    rw c.in-None.is (record { splits = splits; lists = divides_rest _ _ splits })
+pub returns-in-Some-clause-lists : goal.returns-in-Some-clause-lists
+returns-in-Some-clause-lists g c = rw c.in-Some.is (divides_rest _ _ c.part_loose.ensures)
 
-pub returns-in-Some : goal.returns-in-Some
-returns-in-Some g c = rw c.in-Some.is (record { splits = c.part_loose.ensures; lists = divides_rest _ _ c.part_loose.ensures })
+pub returns-in-None-clause-splits : goal.returns-in-None-clause-splits
+returns-in-None-clause-splits g c = rw c.in-None.is (nothing_splits c.requires.owns.arena c.args.place)
+
+pub returns-in-None-clause-lists : goal.returns-in-None-clause-lists
+returns-in-None-clause-lists g c = divides_rest _ _ (returns-in-None-clause-splits g c)

@@ -1,11 +1,8 @@
-use Rattle.splits.proofs.Steps.{named, room, far_alive, whole, both_hold, linkable_b, some_b, grown}
+use Rattle.splits.proofs.Steps.{far_alive, whole, both_hold, linkable_b, some_b, grown}
 use Rattle.splits.proofs.regrowing.regrow_one.Goals as goal
 
-pub cell_at-c-requires : goal.cell_at-c-requires
-cell_at-c-requires g c = named c.requires
-
-pub retain-requires : goal.retain-requires
-retain-requires g c = record { holds = (c.args.pool.now, room c.requires); live = far_alive c.requires c.cell_at-c.ensures c.far_of-far.ensures }
+pub retain-requires-clause-live : goal.retain-requires-clause-live
+retain-requires-clause-live g c = far_alive c.requires c.cell_at-c.ensures c.far_of-far.ensures
 
 pub link_facing-requires : goal.link_facing-requires
 link_facing-requires g c =
