@@ -10,6 +10,6 @@ mod rounds;
 mod tallies;
 mod view;
 
-pub use answers::{Found, Located, Reading, Walk};
+pub use answers::{Found, Located, Reading};
 pub use cursor::Cursor;
 pub use view::View;

@@ -11,7 +11,7 @@ ghost use Rattle.walks.specs.Spines.{Spine};
 
 use crate::cursor::Cursor;
 use crate::view::View;
-use cells::{Cell, cell_at, count_at};
+use cells::{Cell, Path, cell_at, count_at};
 use kinds::Kind;
 
 // What an element has from its atom `d` on.
@@ -37,15 +37,16 @@ impl<'a, K: Kind> View<'a, K> {
     {
         // What stands of the view is known once a field of it is named.
         let _ = &self.cells;
-        let walk = self.descend(from);
-        let depth = walk.lefts.len();
+        let (mut lefts, mut rights) = (Path::new(), Path::new());
+        let found = self.descend(from, &mut lefts, &mut rights);
+        let depth = lefts.len();
         let mut table = [0; 64];
-        table[..depth].copy_from_slice(walk.lefts.as_slice());
-        table[depth] = walk.found.cell;
+        table[..depth].copy_from_slice(lefts.as_slice());
+        table[depth] = found.cell;
         Cursor {
             table,
             depth: depth + 1,
-            offset: walk.found.offset,
+            offset: found.offset,
             left: len,
         }
     }
