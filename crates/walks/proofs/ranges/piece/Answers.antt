@@ -1,5 +1,4 @@
-use Rattle.std.proofs.Common.{arith}
-use Rattle.walks.proofs.Sums.{part_sum, whole_sum}
+use Rattle.walks.proofs.Sums.{part_sum}
 use Rattle.walks.proofs.ranges.piece.Goals as goal
 
 pub returns-else-len-extent : goal.returns-else-len-extent

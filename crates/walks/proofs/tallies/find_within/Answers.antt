@@ -1,7 +1,7 @@
-use Rattle.std.proofs.Common.{◌≡◌, ℕ, ◌/◌, sym, ap, ◌∙◌, subst, arith}
+use Rattle.std.proofs.Common.{◌≡◌, ℕ, ◌/◌, ap, ◌∙◌, subst, arith}
 use Rattle.kinds.specs.Kinds.{Within}
 use Rattle.walks.proofs.Sums.{few_element, part_sum}
-use Rattle.walks.proofs.Halving.{Halved, halved_start, halved_low, halved_high, halved_end}
+use Rattle.walks.proofs.Halving.{Halved, halved_low, halved_high, halved_end}
 use Rattle.walks.proofs.tallies.find_within.Goals as goal
 
 pub loop-len-preserved-then-rest-tally : goal.loop-len-preserved-then-rest-tally
