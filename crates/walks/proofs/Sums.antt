@@ -1,5 +1,5 @@
 -- Lists of atoms that a kind can sum up, and their parts.
-use Rattle.std.proofs.Common.{◌≡◌, ℕ, ◌≤◌, List, [], ◌∷◌, ◌++◌, length, take, drop, Some, None, Option, sym, refl, ap, ◌∙◌, subst, arith, length-append, length-take, length-drop, take_all}
+use Rattle.std.proofs.Common.{◌≡◌, ℕ, ◌≤◌, List, [], ◌++◌, length, take, drop, Some, None, Option, sym, refl, ap, ◌∙◌, subst, arith, length-append, length-take, length-drop, take_all}
 use Rattle.std.proofs.ByRecursion.{All-take, All-drop}
 use lib.Seq.{take-append_seam, drop-append_seam}
 use Rattle.std.specs.List.{slice_get, AllByRecursion}

@@ -1,20 +1,10 @@
 // What walks answer.
-use cells::Path;
 
 // The cell that holds a place and the offset of the place in its element.
 #[derive(Clone, Copy)]
 pub struct Found {
     pub cell: u32,
     pub offset: u32,
-}
-
-// A walk to a place: what it found, and the cells that it left to their left child and to their right one, each time the
-// topmost first.
-#[derive(Drop)]
-pub struct Walk {
-    pub found: Found,
-    pub lefts: Path,
-    pub rights: Path,
 }
 
 // The two numbers of the element that holds a place, the offset of the place in it, and how many cells lead there.

@@ -1,5 +1,5 @@
 // Walks over trees in cells: to a place, to a tally, over a range. They read the lent cells and change none. A walk is a
-// loop; what it passed stands in tables of cell numbers.
+// loop; what it passed stands in paths of cell numbers.
 #![tactic(auto)]
 
 mod answers;
@@ -10,7 +10,6 @@ mod rounds;
 mod tallies;
 mod view;
 
-pub use answers::{Found, Located, Reading, Walk};
+pub use answers::{Found, Located, Reading};
 pub use cursor::Cursor;
-pub use rounds::advance;
 pub use view::View;

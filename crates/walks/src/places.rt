@@ -7,21 +7,24 @@ ghost use Rattle.walks.specs.Holding.{Reads, ReadsByPath};
 ghost use Rattle.walks.specs.Paths.{PathTo};
 ghost use Rattle.walks.specs.Walks.{Walked};
 
-use crate::answers::{Found, Reading, Walk};
+use crate::answers::{Found, Reading};
 use crate::view::View;
 use cells::{Path, cell_at};
 use kinds::Kind;
 
 impl<'a, K: Kind> View<'a, K> {
-    // The walk to the cell that holds the atom `place`.
-    pub fn descend(&self, place: u32) -> Walk
+    // The cell that holds the atom `place`. The cells that the walk leaves to their left child are then in `lefts`, the
+    // topmost first, and those that it leaves to their right child in `rights`; what these held before is gone.
+    // The paths are lent, for a walk that answered them would copy both, and a read would take half as long again.
+    pub fn descend(&self, place: u32, lefts: &mut Path, rights: &mut Path) -> Found
         requires within { place < span (shape (K.meaning self.now.kind)) (tree self.now.cells self.now.root) }
         requires few { cell_count self.now.cells self.now.root ≤ most }
-        ensures walked { Walked (K.meaning self.now.kind) self.now.cells self.now.root place result.lefts.items result.rights.items result.found }
-        ensures path { PathTo (K.meaning self.now.kind) self.now.cells self.now.root place (length result.lefts.items + length result.rights.items + 1) result.found.cell }
+        ensures walked { Walked (K.meaning self.now.kind) self.now.cells self.now.root place lefts.new.items rights.new.items result }
+        ensures path { PathTo (K.meaning self.now.kind) self.now.cells self.now.root place (length lefts.new.items + length rights.new.items + 1) result.cell }
     {
+        lefts.clear();
+        rights.clear();
         let (mut cell, mut at) = (self.root, place);
-        let (mut lefts, mut rights) = (Path::new(), Path::new());
         loop {
             let c = cell_at(self.cells, cell);
             let before = self.at(c.left).width();
@@ -32,12 +35,7 @@ impl<'a, K: Kind> View<'a, K> {
                 let past = at - before;
                 let own = self.kind.extent(c.element);
                 if past < own {
-                    let found = Found { cell, offset: past };
-                    return Walk {
-                        found,
-                        lefts,
-                        rights,
-                    };
+                    return Found { cell, offset: past };
                 }
                 rights.push(cell);
                 at = past - own;
@@ -53,13 +51,14 @@ impl<'a, K: Kind> View<'a, K> {
         ensures reads { Reads (K.meaning self.now.kind) self.now.cells self.now.root place result }
         ensures path { ReadsByPath (K.meaning self.now.kind) self.now.cells self.now.root place result }
     {
-        let walk = self.descend(place);
-        let (first, second) = self.kind.tell(cell_at(self.cells, walk.found.cell).element);
+        let (mut lefts, mut rights) = (Path::new(), Path::new());
+        let found = self.descend(place, &mut lefts, &mut rights);
+        let (first, second) = self.kind.tell(cell_at(self.cells, found.cell).element);
         Reading {
             first,
             second,
-            offset: walk.found.offset,
-            count: (walk.lefts.len() + walk.rights.len() + 1) as u32,
+            offset: found.offset,
+            count: (lefts.len() + rights.len() + 1) as u32,
         }
     }
 }

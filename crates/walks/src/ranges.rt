@@ -63,7 +63,7 @@ impl<'a, K: Kind> View<'a, K> {
         }
     }
 
-    // The summary of the first `len` atoms.
+    // The summary of the first `len` atoms. It mirrors the tail's; one function with a side would choose at each of its lines.
     fn head_summary(&self, len: u32) -> K::Summary
         requires { len ≤ span (shape (K.meaning self.now.kind)) (tree self.now.cells self.now.root) }
         ensures { result ≡ total (K.meaning self.now.kind) (take len (meant (K.meaning self.now.kind) (tree self.now.cells self.now.root))) }

@@ -8,7 +8,7 @@ use Rattle.walks.proofs.view.View.descend.Goals as goal
 
 pub loop-at-init : goal.loop-at-init
 loop-at-init g c =
-    rw (c.new-lefts.ensures, c.new-rights.ensures)
+    rw (c.clear.ensures, c.clear-2.ensures)
     (start (g.K.Kind.meaning c.self.inside.kind.now) c.self.inside.cells.now c.self.invariant.sound c.self.inside.root c.args.place c.self.invariant.live
     (subst (λ v. c.args.place < width g.K.Kind.meaning v) (sym c.self.view_is) c.requires.within))
 

@@ -2,7 +2,7 @@ use Rattle.std.proofs.Common.{◌<◌, ◌≤◌, ◌-◌, refl, sym, ap, ◌∙
 use Rattle.kinds.specs.Kinds.{Tallies, total}
 use Rattle.balance.specs.Levels.{most}
 use Rattle.cells.specs.Cells.{cell_count, tree, meant}
-use Rattle.walks.proofs.Nodes.{node_good, node_count}
+use Rattle.walks.proofs.Nodes.{node_good}
 use Rattle.walks.proofs.Sums.{sum_is, width_is}
 use Rattle.walks.proofs.Seeking.{sought_start, sought_named, sought_short, sought_left, sought_right, sought_few, sought_found, sought_path}
 use Rattle.walks.proofs.view.View.find.Goals as goal
@@ -26,14 +26,6 @@ overflow_add-count g c =
           _ _ _ _ _ _ c.self.invariant.live c.loop-rest.invariant (subst (λ v. cell_count v.cells v.root ≤ most) (sym c.self.view_is) c.requires.few),
     )
 
-pub loop-rest-smaller-then-rest-before : goal.loop-rest-smaller-then-rest-before
-loop-rest-smaller-then-rest-before g c =
-    omega (arith, node_count (g.K.Kind.meaning c.self.inside.kind.now) c.self.inside.cells.now c.self.invariant.sound _ c.cell_at-c.result c.cell_at-c.ensures c.loop-rest.invariant.live)
-
-pub loop-rest-smaller : goal.loop-rest-smaller
-loop-rest-smaller g c =
-    omega (arith, node_count (g.K.Kind.meaning c.self.inside.kind.now) c.self.inside.cells.now c.self.invariant.sound _ c.cell_at-c.result c.cell_at-c.ensures c.loop-rest.invariant.live)
-
 pub loop-rest-preserved-then-rest-before : goal.loop-rest-preserved-then-rest-before
 loop-rest-preserved-then-rest-before g c =
     let k = g.K.Kind.meaning c.self.inside.kind.now in
@@ -55,17 +47,6 @@ overflow_add-start g c =
       width,
       sought_few k laws (g.K.Tally.tallied c.self.inside.kind.now) (subst (λ v. Tallies (g.K.Kind.meaning v.kind) (g.K.Tally.tallied v.kind)) (sym c.self.view_is) c.requires.adds) c.self.inside.cells.now c.self.invariant.sound _ _ _ _ _ _ c.self.invariant.live c.loop-rest.invariant c.cell_at-c.result c.cell_at-c.ensures,
     )
-
-pub find_within-requires : goal.find_within-requires
-find_within-requires g c =
-    let k = g.K.Kind.meaning c.self.inside.kind.now in
-    let tally = g.K.Tally.tallied c.self.inside.kind.now in
-    let good = node_good k c.self.inside.cells.now c.self.invariant.sound _ c.cell_at-c.result c.cell_at-c.ensures c.loop-rest.invariant.live in
-    record {
-      lawful = good.lawful;
-      adds = (subst (λ v. Tallies (g.K.Kind.meaning v.kind) (g.K.Tally.tallied v.kind)) (sym c.self.view_is) c.requires.adds);
-      below = omega (arith, c.if-past-own.true, c.tally-own.ensures.value, ap tally good.owns);
-    }
 
 pub overflow_add-result : goal.overflow_add-result
 overflow_add-result g c =

@@ -1,15 +1,8 @@
-use Rattle.std.proofs.Common.{◌+◌, ◌≤◌, refl, sym, subst, arith}
-use Rattle.walks.proofs.Views.{width, at_width, at_live}
+use Rattle.std.proofs.Common.{arith}
+use Rattle.walks.proofs.Views.{at_width, at_live}
 use Rattle.walks.proofs.Nodes.{node_good, node_count, node_span}
 use Rattle.walks.proofs.Summing.{fork_named, fork_left, fork_right, fork_here, span_few}
 use Rattle.walks.proofs.view.View.fork.Goals as goal
-
-pub loop-at-init : goal.loop-at-init
-loop-at-init g c = record {
-  live = c.self.invariant.live;
-  inside = subst (λ v. c.args.from + c.args.len ≤ width g.K.Kind.meaning v) (sym c.self.view_is) c.requires.within;
-  listed = refl;
-}
 
 pub cell_at-c-requires : goal.cell_at-c-requires
 cell_at-c-requires g c =

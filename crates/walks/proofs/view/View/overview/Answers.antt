@@ -1,4 +1,4 @@
-use Rattle.std.proofs.Common.{◌≡◌, ℕ, ◌<◌, ◌≤◌, ◌-◌, length, min, take, drop, sym, ap, ◌∙◌, subst, arith}
+use Rattle.std.proofs.Common.{◌≡◌, ℕ, ◌-◌, min, take, drop, sym, ap, ◌∙◌, subst, arith}
 use Rattle.kinds.specs.Kinds.{total}
 use Rattle.cells.specs.Cells.{tree, meant}
 use Rattle.cells.proofs.Lists.{some_in}
