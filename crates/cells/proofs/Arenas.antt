@@ -1,7 +1,8 @@
 -- The invariant over cells, pool and roots, before and after each write.
-use Rattle.std.proofs.Common.{◌≡◌, ℕ, ◌+◌, ◌-◌, ◌^◌, ◌<◌, ◌≤◌, true, false, ◌≢◌, List, [], ◌∷◌, length, set, Some, None, Option, sym, refl, ap, ◌∙◌, subst, ⊎_elim, add-one, arith, length-set}
+use Rattle.std.proofs.Common.{◌≡◌, ℕ, ◌+◌, ◌-◌, ◌^◌, ◌<◌, ◌≤◌, ◌≢◌, List, [], ◌∷◌, length, get_or, set, Some, None, Option, sym, refl, ap, ◌∙◌, subst, ⊎_elim, add-one, arith, length-set}
 use Rattle.std.specs.List.{slice_get}
 use Rattle.std.proofs.lemmas.Bool.{cases_eq}
+use Rattle.std.proofs.lemmas.Option.{get_or_from_slice_get}
 use Rattle.kinds.specs.Kinds.{Meaning}
 use Rattle.cells.specs.declared.cell.Cell.{Cell}
 use Rattle.cells.specs.declared.pool.Pool.{Pool}
@@ -111,6 +112,19 @@ module _ {E A S : Type 0} (k : Meaning E A S) (a : List (Cell E S)) (i : ℕ) (c
         long = omega (arith, arena.long);
       }
 
+-- the references of the cell i are written in place
+written : {E S : Type 0} (a : List (Cell E S)) (i : ℕ) (c x y : Cell E S) (f : ℕ → ℕ) → slice_get a i ≡ Some c
+    → set a i (with_refs (get_or a i y) (f (get_or a i x).refs)) ≡ set a i (with_refs c (f c.refs))
+written a i c x y f at = ap (λ d. set a i (with_refs d (f (get_or a i x).refs))) (get_or_from_slice_get a i c y at) ∙ ap (λ d. set a i (with_refs c (f d.refs))) (get_or_from_slice_get a i c x at)
+
+pub one_fewer : {E S : Type 0} (a : List (Cell E S)) (i : ℕ) (c x y : Cell E S) → slice_get a i ≡ Some c
+    → set a i (with_refs (get_or a i y) ((get_or a i x).refs - 1)) ≡ set a i (with_refs c (c.refs - 1))
+one_fewer a i c x y at = written a i c x y (λ n. n - 1) at
+
+pub one_more : {E S : Type 0} (a : List (Cell E S)) (i : ℕ) (c x y : Cell E S) → slice_get a i ≡ Some c
+    → set a i (with_refs (get_or a i y) ((get_or a i x).refs + 1)) ≡ retained a i
+one_more a i c x y at = written a i c x y (λ n. n + 1) at ∙ sym (ap (retained_at a i) at)
+
 -- ---- retaining
 
 module _ {E A S : Type 0} (k : Meaning E A S) (a : List (Cell E S)) (i : ℕ) where
@@ -148,13 +162,25 @@ count_set a x c d at same j = ⊎_elim
     (λ ne. ap counted (nth_set_other a x j d ne))
     (cases_eq j x)
 
+-- the link names no cell
+pub given_up_none : {E A S : Type 0} (k : Meaning E A S) (a : List (Cell E S)) (p : Pool) (i : ℕ) → length a ≤ i → GivesUp k a p i a p None
+given_up_none k a p i past = record {
+  was = tt;
+  each = λ rs arena. rerooted k a p (i ∷ rs) arena rs (λ j h. let o = hit_other i j (λ q. omega arith) in omega arith);
+  takes = takes_refl a 0;
+  same_counts = λ j. refl;
+  uses = omega arith;
+  frees = omega arith;
+}
+
 module _ {E A S : Type 0} (k : Meaning E A S) (a : List (Cell E S)) (p : Pool) (i : ℕ) (c : Cell E S) (at : slice_get a i ≡ Some c) where
   -- the cell has another reference
-  pub given_up_one : (b : List (Cell E S)) → b ≡ set a i (with_refs c (c.refs - 1)) → 1 < c.refs → GivesUp k a p i b p false
+  pub given_up_one : (b : List (Cell E S)) → b ≡ set a i (with_refs c (c.refs - 1)) → 1 < c.refs → GivesUp k a p i b p None
   given_up_one b e more =
       let n : ℕ = c.refs - 1 in
-      subst (λ x. GivesUp k a p i x p false) (sym e) (record {
-        each = λ f rs is arena. arena_recounted k a i c at n p (i ∷ rs) rs arena (omega arith) (omega arith) (let h = hit_same i in omega arith) (λ j ne. let h = hit_other i j ne in omega arith);
+      subst (λ x. GivesUp k a p i x p None) (sym e) (record {
+        was = tt;
+        each = λ rs arena. arena_recounted k a i c at n p (i ∷ rs) rs arena (omega arith) (omega arith) (let h = hit_same i in omega arith) (λ j ne. let h = hit_other i j ne in omega arith);
         takes = takes_none a (set a i (with_refs c n)) (remained_recounted k a i c at (with_refs c n) (same_back k a i c at n) (omega arith)) 0;
         same_counts = count_set a i c (with_refs c n) at refl;
         uses = let u = used_set a i c (with_refs c n) at in omega arith;
@@ -194,13 +220,11 @@ module _ {E A S : Type 0} (k : Meaning E A S) (a : List (Cell E S)) (p : Pool) (
         long = omega (arith, arena.long);
       }
 
-  pub given_up_last : (b : List (Cell E S)) → b ≡ set a i freed → c.refs ≡ 1 → GivesUp k a p i b (record { head = i; free = p.free + 1 }) true
+  pub given_up_last : (b : List (Cell E S)) → b ≡ set a i freed → c.refs ≡ 1 → GivesUp k a p i b (record { head = i; free = p.free + 1 }) (Some c)
   given_up_last b e one =
-      subst (λ x. GivesUp k a p i x (record { head = i; free = p.free + 1 }) true) (sym e) (record {
-        each = λ f rs is arena.
-            let s : Some c ≡ Some f = sym at ∙ is in
-            let cf : c ≡ f = cc in
-            subst (λ x. Arena k (set a i freed) (record { head = i; free = p.free + 1 }) (x.left ∷ x.right ∷ rs)) cf (arena_freed rs one arena);
+      subst (λ x. GivesUp k a p i x (record { head = i; free = p.free + 1 }) (Some c)) (sym e) (record {
+        was = at;
+        each = λ rs arena. arena_freed rs one arena;
         takes = takes_none a (set a i freed) (remained_freed k a i c at freed refl) 0;
         same_counts = count_set a i c freed at refl;
         uses = let u = used_set a i c freed at in omega arith;

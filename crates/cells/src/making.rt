@@ -7,7 +7,6 @@ ghost use Rattle.cells.specs.Moves.{Fits, Yields};
 
 use crate::cell::Cell;
 use crate::item::Item;
-use crate::owning::put;
 use crate::pool::Pool;
 use crate::read::{cell_at, count_at, summary_at};
 use kinds::Kind;
@@ -34,21 +33,16 @@ pub fn make<K: Kind>(
     let count = count_at(cells, left) + 1 + count_at(cells, right);
     let behind = kind.join(item.own, summary_at(kind, cells, right));
     let summary = kind.join(summary_at(kind, cells, left), behind);
-    let taken = cell_at(cells, i);
-    put(
-        cells,
-        i,
-        Cell {
-            element: item.element,
-            own: item.own,
-            left,
-            right,
-            count,
-            summary,
-            refs: 1,
-        },
-    );
-    pool.head = taken.left;
+    pool.head = cell_at(cells, i).left;
+    cells[i as usize] = Cell {
+        element: item.element,
+        own: item.own,
+        left,
+        right,
+        count,
+        summary,
+        refs: 1,
+    };
     pool.free -= 1;
     i
 }
