@@ -1,6 +1,6 @@
 // Taking a tree apart at a place. Between two elements nothing is divided; an element around the place becomes its two
 // parts, of which the second is left loose: most often it is linked elsewhere, or divided once more.
-ghost use Rattle.std.specs.Prelude.{◌≡◌, ◌+◌, ◌^◌, ◌<◌, ◌≤◌, [], ◌∷◌, length, MatchOption};
+ghost use Rattle.std.specs.Prelude.{◌≡◌, ◌+◌, ◌^◌, ◌<◌, ◌≤◌, [], ◌∷◌};
 ghost use Rattle.faults.specs.Limits.{limit};
 ghost use Rattle.kinds.specs.Places.{after};
 ghost use Rattle.balance.specs.Trees.{count, elements};
@@ -9,40 +9,17 @@ ghost use Rattle.balance.specs.Ways.{span};
 ghost use Rattle.balance.specs.Edits.{more, listed, tail, parted, parted_rest};
 ghost use Rattle.balance.specs.Levels.{most};
 ghost use Rattle.balance.specs.Costs.{parted_cost, parted_rest_cost};
-ghost use Rattle.cells.specs.Cells.{shape, tree, cell_count, Live, Sound};
-ghost use Rattle.walks.specs.Walks.{Walked};
+ghost use Rattle.cells.specs.Cells.{shape, tree};
 ghost use Rattle.splits.specs.Owning.{Owns};
 ghost use Rattle.splits.specs.Splitting.{behind, loose_roots, AllTied, Splits, Leaves, Divided, Partable};
 
 use crate::loosening::{from_on, item_of, up_to};
 use crate::siding::{before_of, behind_of};
 use crate::split::{Loose, Split};
-use cells::{Cell, NONE, Pool, cell_at, release, retain};
+use cells::{Cell, NONE, Path, Pool, cell_at, release, retain};
 use kinds::Kind;
 use links::link;
-use walks::{View, Walk};
-
-// The walk to a place of the tree under `root`; none where it is the end or beyond.
-fn walk_to<K: Kind>(
-    kind: &K,
-    cells: &[Cell<K::Element, K::Summary>],
-    root: u32,
-    place: u32,
-) -> Option<Walk>
-    requires sound { Sound (K.meaning kind.now) cells.now }
-    requires live { Live cells.now root }
-    requires few { cell_count cells.now root ≤ most }
-    ensures { MatchOption result (span (shape (K.meaning kind.now)) (tree cells.now root) ≤ place)
-        (λ w. (place < span (shape (K.meaning kind.now)) (tree cells.now root))
-        × Walked (K.meaning kind.now) cells.now root place w.lefts.items w.rights.items w.found) }
-{
-    let view = View::new(kind, cells, root);
-    if place < view.width() {
-        Some(view.descend(place))
-    } else {
-        None
-    }
-}
+use walks::{Found, View};
 
 // The tree of a lent root, taken apart at a place; at its end or beyond, all of it lies before.
 pub fn part<K: Kind>(
@@ -60,18 +37,20 @@ pub fn part<K: Kind>(
         (parted_cost (shape (K.meaning kind.now)) (tree cells.old root) place) }
     ensures lists { Divided (K.meaning kind.now) cells.new result (elements (tree cells.old root)) place }
 {
-    let Some(walk) = walk_to(kind, cells, root, place) else {
+    let view = View::new(kind, cells, root);
+    if place >= view.width() {
         retain(kind, cells, root);
         return Split {
             before: root,
             loose: None,
         };
-    };
-    let c = cell_at(cells, walk.found.cell);
-    let d = walk.found.offset;
-    let loose = behind_of(kind, cells, pool, c, d, walk.lefts.as_slice());
+    }
+    let (mut lefts, mut rights) = (Path::new(), Path::new());
+    let Found { cell, offset } = view.descend(place, &mut lefts, &mut rights);
+    let c = cell_at(cells, cell);
+    let loose = behind_of(kind, cells, pool, c, offset, lefts.as_slice());
     Split {
-        before: before_of(kind, cells, pool, c, d, walk.rights.as_slice()),
+        before: before_of(kind, cells, pool, c, offset, rights.as_slice()),
         loose: Some(loose),
     }
 }
@@ -93,10 +72,14 @@ pub fn part_behind<K: Kind>(
         (parted_cost (shape (K.meaning kind.now)) (tree cells.old root) place) }
     ensures lists { listed (behind cells.new result) ≡ after (K.meaning kind.now) place (elements (tree cells.old root)) }
 {
-    let walk = walk_to(kind, cells, root, place)?;
-    let c = cell_at(cells, walk.found.cell);
-    let d = walk.found.offset;
-    Some(behind_of(kind, cells, pool, c, d, walk.lefts.as_slice()))
+    let view = View::new(kind, cells, root);
+    if place >= view.width() {
+        return None;
+    }
+    let (mut lefts, mut rights) = (Path::new(), Path::new());
+    let Found { cell, offset } = view.descend(place, &mut lefts, &mut rights);
+    let c = cell_at(cells, cell);
+    Some(behind_of(kind, cells, pool, c, offset, lefts.as_slice()))
 }
 
 // A loose element and the tree behind it, taken apart at a place. Both are given away.

@@ -1,28 +1,37 @@
+use Rattle.std.proofs.Common.{arith}
 use Rattle.cells.proofs.Lists.{some_in}
 use Rattle.splits.proofs.Parts.{root_few, leaves_beyond, asks_behind, leaves_inside}
 use Rattle.splits.proofs.InLists.{leaves_tree}
 use Rattle.splits.proofs.parting.part_behind.Goals as goal
 
-pub walk_to-requires-clause-few : goal.walk_to-requires-clause-few
-walk_to-requires-clause-few g c = root_few c.requires.owns c.requires.few
+pub returns-then-place-width-clause-leaves : goal.returns-then-place-width-clause-leaves
+returns-then-place-width-clause-leaves g c =
+    let width = rw c.new-view.ensures at c.width.ensures in
+    leaves_beyond c.requires.owns c.args.place (omega (arith, width, c.if-place-width.true))
 
-pub returns-in_err-walk-clause-leaves : goal.returns-in_err-walk-clause-leaves
-returns-in_err-walk-clause-leaves g c = rw c.from_residual.ensures (leaves_beyond c.requires.owns c.args.place c.in_err-walk.ensures)
+pub returns-then-place-width-clause-lists : goal.returns-then-place-width-clause-lists
+returns-then-place-width-clause-lists g c = leaves_tree _ _ (returns-then-place-width-clause-leaves g c)
 
-pub returns-in_err-walk-clause-lists : goal.returns-in_err-walk-clause-lists
-returns-in_err-walk-clause-lists g c = leaves_tree _ _ (returns-in_err-walk-clause-leaves g c)
+pub descend-cell-requires-clause-few : goal.descend-cell-requires-clause-few
+descend-cell-requires-clause-few g c = rw c.new-view.ensures (root_few c.requires.owns c.requires.few)
 
 pub cell_at-c-requires : goal.cell_at-c-requires
-cell_at-c-requires g c = let w = c.in_ok-walk.ensures.1 in some_in c.args.cells.now c.in_ok-walk.walk.found.cell w.cell w.at
+cell_at-c-requires g c =
+    let w = rw c.new-view.ensures at c.descend-cell.ensures.walked in
+    some_in c.args.cells.now c.descend-cell.result.cell w.cell w.at
 
 pub behind_of-requires : goal.behind_of-requires
 behind_of-requires g c =
-    rw c.as_slice.ensures.value (asks_behind c.requires.owns (g.K.Kind.laws c.args.kind.now) c.requires.few c.in_ok-walk.ensures.1 c.cell_at-c.ensures c.in_ok-walk.ensures.0 c.requires.some)
+    let width = rw c.new-view.ensures at c.width.ensures in
+    let w = rw c.new-view.ensures at c.descend-cell.ensures.walked in
+    rw c.as_slice.ensures.value (asks_behind c.requires.owns (g.K.Kind.laws c.args.kind.now) c.requires.few w c.cell_at-c.ensures (omega (arith, width, c.if-place-width.false)) c.requires.some)
 
 pub returns-clause-leaves : goal.returns-clause-leaves
 returns-clause-leaves g c =
+    let width = rw c.new-view.ensures at c.width.ensures in
+    let w = rw c.new-view.ensures at c.descend-cell.ensures.walked in
     let behind = c.behind_of.ensures in
-    leaves_inside c.requires.owns (g.K.Kind.laws c.args.kind.now) c.requires.few c.in_ok-walk.ensures.1 c.cell_at-c.ensures c.in_ok-walk.ensures.0 (rw c.as_slice.ensures.value at behind.regrown) behind.tied behind.element
+    leaves_inside c.requires.owns (g.K.Kind.laws c.args.kind.now) c.requires.few w c.cell_at-c.ensures (omega (arith, width, c.if-place-width.false)) (rw c.as_slice.ensures.value at behind.regrown) behind.tied behind.element
 
 pub returns-clause-lists : goal.returns-clause-lists
 returns-clause-lists g c = leaves_tree _ _ (returns-clause-leaves g c)
