@@ -57,7 +57,8 @@ module _ {E A S : Type 0} (k : Meaning E A S) (cells : List (Cell E S)) (sound :
     reached = omega arith;
   }
 
-  module _ (root p cell at : ℕ) (lefts rights : List ℕ) (d : Descent k cells root p cell at lefts rights) where
+module _ {E A S : Type 0} {k : Meaning E A S} {cells : List (Cell E S)} (sound : Sound k cells) where
+  module _ {root p cell at : ℕ} {lefts rights : List ℕ} (d : Descent k cells root p cell at lefts rights) where
     pub descent_named : cell < length cells
     descent_named = inside_named k cells sound cell at d.inside
 
@@ -71,9 +72,9 @@ module _ {E A S : Type 0} (k : Meaning E A S) (cells : List (Cell E S)) (sound :
 
     -- so they are short
     pub descent_short : Live cells root → cell_count cells root ≤ most → length lefts + length rights ≤ deepest
-    descent_short live few = omega (arith, passed_depth, (leads_by root p _ live few refl).short)
+    descent_short live few = omega (arith, passed_depth, (leads_by k cells sound root p _ live few refl).short)
 
-    module _ (c : Cell E S) (e : slice_get cells cell ≡ Some c) where
+    module _ {c : Cell E S} (e : slice_get cells cell ≡ Some c) where
       abbrev L : Tree E
       L = tree cells c.left
 
@@ -145,7 +146,7 @@ module _ {E A S : Type 0} (k : Meaning E A S) (cells : List (Cell E S)) (sound :
             to_left = d.to_left;
             to_right = d.to_right;
             nested = d.nested;
-            leads = leads_by root p (length lefts + length rights + 1) live few depth_is;
+            leads = leads_by k cells sound root p (length lefts + length rights + 1) live few depth_is;
           }
 
       pub arrive_path : (q : ℕ) → Live cells root → at ≡ span (shape k) L + q → q < length (k.atoms c.element) → PathTo k cells root p (length lefts + length rights + 1) cell

@@ -44,7 +44,7 @@ module _ {E A S : Type 0} (k : Meaning E A S) (cells : List (Cell E S)) where
     pub inside : at + len ≤ span (shape k) (tree cells cell)
     pub listed : take len (drop from (meant k (tree cells root))) ≡ take len (drop at (meant k (tree cells cell)))
 
-module _ {E A S : Type 0} (k : Meaning E A S) (laws : Laws k) (cells : List (Cell E S)) (sound : Sound k cells) where
+module _ {E A S : Type 0} {k : Meaning E A S} (laws : Laws k) {cells : List (Cell E S)} (sound : Sound k cells) where
   -- ---- the tail
 
   pub tail_none : (link from : ℕ) (sum : S) → sum ≡ k.none → from ≡ span (shape k) (tree cells link) → sum ≡ total k (drop from (meant k (tree cells link)))
@@ -56,7 +56,7 @@ module _ {E A S : Type 0} (k : Meaning E A S) (laws : Laws k) (cells : List (Cel
   pub tail_start : (link from : ℕ) (sum : S) → Live cells link → from ≤ span (shape k) (tree cells link) → sum ≡ k.none → TailAt k cells link from link from sum
   tail_start link from sum live inside sum_none = record { live = live; inside = inside; behind = []; listed = sym (append-nil _); summed = sum_none }
 
-  module _ (link from cell at : ℕ) (sum : S) (live : Live cells link) (t : TailAt k cells link from cell at sum) where
+  module _ {link from cell at : ℕ} {sum : S} (live : Live cells link) (t : TailAt k cells link from cell at sum) where
     pub tail_named : 0 < at → cell < length cells
     tail_named some = inside_named k cells sound cell 0 (omega (arith, t.inside))
 
@@ -69,7 +69,7 @@ module _ {E A S : Type 0} (k : Meaning E A S) (laws : Laws k) (cells : List (Cel
         let few' : Few k (meant k (tree cells cell) ++ t.behind) = subst (λ (n : ℕ). Few k (drop n (meant k (tree cells cell)) ++ t.behind)) none tail_few in
         join_sum k laws (meant k (tree cells cell)) t.behind s sum r few' (s_is ∙ sum_is k laws cells sound cell t.live) t.summed asked ∙ ap (total k) (sym listed')
 
-    module _ (c : Cell E S) (is : slice_get cells cell ≡ Some c) where
+    module _ {c : Cell E S} (is : slice_get cells cell ≡ Some c) where
       abbrev L : List A
       L = meant k (tree cells c.left)
 
@@ -134,10 +134,7 @@ module _ {E A S : Type 0} (k : Meaning E A S) (laws : Laws k) (cells : List (Cel
 
   -- ---- the head
 
-  pub head_start : (link len : ℕ) (sum : S) → Live cells link → 0 < len → len ≤ span (shape k) (tree cells link) → sum ≡ k.none → HeadAt k cells link len link len sum
-  head_start link len sum live some inside sum_none = record { live = live; some = some; inside = inside; before = []; listed = refl; summed = sum_none }
-
-  module _ (link len cell rest : ℕ) (sum : S) (live : Live cells link) (h : HeadAt k cells link len cell rest sum) where
+  module _ {link len cell rest : ℕ} {sum : S} (live : Live cells link) (h : HeadAt k cells link len cell rest sum) where
     pub head_named : cell < length cells
     head_named = inside_named k cells sound cell 0 (omega (arith, h.inside, h.some))
 
@@ -150,7 +147,7 @@ module _ {E A S : Type 0} (k : Meaning E A S) (laws : Laws k) (cells : List (Cel
         h.listed ∙ ap (λ l. h.before ++ l) (take_all rest (meant k (tree cells cell)) (omega (arith, meant_span k (tree cells cell)))) in
         join_sum k laws h.before (meant k (tree cells cell)) sum s r (head_few _ listed') h.summed (s_is ∙ sum_is k laws cells sound cell h.live) asked ∙ ap (total k) (sym listed')
 
-    module _ (c : Cell E S) (is : slice_get cells cell ≡ Some c) where
+    module _ {c : Cell E S} (is : slice_get cells cell ≡ Some c) where
       abbrev L' : List A
       L' = meant k (tree cells c.left)
 
@@ -214,11 +211,11 @@ module _ {E A S : Type 0} (k : Meaning E A S) (laws : Laws k) (cells : List (Cel
   pub span_few : (i : ℕ) → Live cells i → span (shape k) (tree cells i) ≤ limit
   span_few i live = omega (arith, (few_tree k cells sound i live).few, meant_span k (tree cells i))
 
-  module _ (root from len cell at : ℕ) (some : 1 ≤ len) (f : ForkAt k cells root from len cell at) where
+  module _ {root from len cell at : ℕ} (some : 1 ≤ len) (f : ForkAt k cells root from len cell at) where
     pub fork_named : cell < length cells
     fork_named = inside_named k cells sound cell at (omega (arith, f.inside))
 
-    module _ (c : Cell E S) (is : slice_get cells cell ≡ Some c) where
+    module _ {c : Cell E S} (is : slice_get cells cell ≡ Some c) where
       fork_meant : meant k (tree cells cell) ≡ meant k (tree cells c.left) ++ (k.atoms c.element ++ meant k (tree cells c.right))
       fork_meant = node_meant k cells sound cell c is f.live
 
@@ -244,7 +241,7 @@ module _ {E A S : Type 0} (k : Meaning E A S) (laws : Laws k) (cells : List (Cel
           → Forked k cells root from len (record { cell = cell; from = at })
       fork_here late early = record { cell = c; at = is; live = f.live; listed = f.listed; inside = f.inside; not_before = late; not_behind = early }
 
-  module _ (root from len : ℕ) (r : Fork) (f : Forked k cells root from len r) (c : Cell E S) (is : slice_get cells r.cell ≡ Some c) where
+  module _ {root from len : ℕ} {r : Fork} (f : Forked k cells root from len r) {c : Cell E S} (is : slice_get cells r.cell ≡ Some c) where
     same_cell : f.cell ≡ c
     same_cell = let f_is = f.at in cc
 

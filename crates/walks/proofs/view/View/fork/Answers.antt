@@ -6,7 +6,7 @@ use Rattle.walks.proofs.view.View.fork.Goals as goal
 
 pub cell_at-c-requires : goal.cell_at-c-requires
 cell_at-c-requires g c =
-    fork_named (g.K.Kind.meaning c.self.inside.kind.now) (g.K.Kind.laws c.self.inside.kind.now) c.self.inside.cells.now c.self.invariant.sound _ _ _ _ _ c.requires.some c.loop-at.invariant
+    fork_named (g.K.Kind.laws c.self.inside.kind.now) c.self.invariant.sound c.requires.some c.loop-at.invariant
 
 pub at-requires : goal.at-requires
 at-requires g c =
@@ -18,7 +18,7 @@ overflow_add-at g c =
     omega (
       arith,
       c.loop-at.invariant.inside,
-      span_few (g.K.Kind.meaning c.self.inside.kind.now) (g.K.Kind.laws c.self.inside.kind.now) c.self.inside.cells.now c.self.invariant.sound _ c.loop-at.invariant.live,
+      span_few (g.K.Kind.laws c.self.inside.kind.now) c.self.invariant.sound _ c.loop-at.invariant.live,
     )
 
 pub loop-at-smaller-then-at-len : goal.loop-at-smaller-then-at-len
@@ -28,8 +28,8 @@ loop-at-smaller-then-at-len g c =
 pub loop-at-preserved-then-at-len : goal.loop-at-preserved-then-at-len
 loop-at-preserved-then-at-len g c =
     let before = at_width g.K.Kind.meaning c.self.view_is c.width-before.ensures c.at.ensures in
-    fork_left (g.K.Kind.meaning c.self.inside.kind.now) (g.K.Kind.laws c.self.inside.kind.now) c.self.inside.cells.now c.self.invariant.sound _ _ _ _ _ c.requires.some c.loop-at.invariant
-    c.cell_at-c.result c.cell_at-c.ensures (omega (arith, c.if-at-len.true, before))
+    fork_left (g.K.Kind.laws c.self.inside.kind.now) c.self.invariant.sound c.requires.some c.loop-at.invariant
+    c.cell_at-c.ensures (omega (arith, c.if-at-len.true, before))
 
 pub overflow_add-past : goal.overflow_add-past
 overflow_add-past g c =
@@ -43,7 +43,7 @@ overflow_add-past g c =
       own,
       before,
       node_span k cells sound _ c.cell_at-c.result c.cell_at-c.ensures c.loop-at.invariant.live,
-      span_few k (g.K.Kind.laws c.self.inside.kind.now) cells sound _ c.loop-at.invariant.live,
+      span_few (g.K.Kind.laws c.self.inside.kind.now) sound _ c.loop-at.invariant.live,
     )
 
 pub returns-then-at-past : goal.returns-then-at-past
@@ -54,7 +54,7 @@ returns-then-at-past g c =
     let before = at_width g.K.Kind.meaning c.self.view_is c.width-before.ensures c.at.ensures in
     let own = c.extent.ensures (node_good k cells sound _ c.cell_at-c.result c.cell_at-c.ensures c.loop-at.invariant.live).lawful in
     rw (← c.self.view_is)
-    (fork_here k (g.K.Kind.laws c.self.inside.kind.now) cells sound _ _ _ _ _ c.requires.some c.loop-at.invariant c.cell_at-c.result c.cell_at-c.ensures
+    (fork_here (g.K.Kind.laws c.self.inside.kind.now) sound c.requires.some c.loop-at.invariant c.cell_at-c.ensures
     (omega (arith, c.if-at-len.false, before)) (omega (arith, own, c.if-at-past.true, before)))
 
 pub loop-at-smaller : goal.loop-at-smaller
@@ -68,5 +68,5 @@ loop-at-preserved g c =
     let sound = c.self.invariant.sound in
     let before = at_width g.K.Kind.meaning c.self.view_is c.width-before.ensures c.at.ensures in
     let own = c.extent.ensures (node_good k cells sound _ c.cell_at-c.result c.cell_at-c.ensures c.loop-at.invariant.live).lawful in
-    fork_right k (g.K.Kind.laws c.self.inside.kind.now) cells sound _ _ _ _ _ c.requires.some c.loop-at.invariant c.cell_at-c.result c.cell_at-c.ensures _
+    fork_right (g.K.Kind.laws c.self.inside.kind.now) sound c.requires.some c.loop-at.invariant c.cell_at-c.ensures _
     (omega (arith, own, c.if-at-past.false, before))
