@@ -87,10 +87,10 @@ module _ {E A S : Type 0} {k : Meaning E A S} (laws : Laws k) {tally : S → ℕ
       right_atoms = meant k R
 
       here_is : tree cells cell ≡ node L c.element R
-      here_is = node_is k cells sound cell c at s.live
+      here_is = node_is sound _ at s.live
 
       here_meant : meant k (tree cells cell) ≡ left_atoms ++ (own_atoms ++ right_atoms)
-      here_meant = node_meant k cells sound cell c at s.live
+      here_meant = node_meant sound _ at s.live
 
       listed_here : meant k (tree cells root) ≡ s.front ++ ((left_atoms ++ (own_atoms ++ right_atoms)) ++ s.behind)
       listed_here = s.listed ∙ ap (λ l. s.front ++ (l ++ s.behind)) here_meant
@@ -113,7 +113,7 @@ module _ {E A S : Type 0} {k : Meaning E A S} (laws : Laws k) {tally : S → ℕ
 
       pub sought_left : rest < tally_of k tally left_atoms → Sought k tally cells root t c.left rest base (passed + 1)
       sought_left low = record {
-        live = (node_good k cells sound cell c at s.live).left_live;
+        live = (node_good sound _ at s.live).left_live;
         front = s.front;
         behind = (own_atoms ++ right_atoms) ++ s.behind;
         listed = listed_here ∙ to_left s.front left_atoms own_atoms right_atoms s.behind;
@@ -123,7 +123,7 @@ module _ {E A S : Type 0} {k : Meaning E A S} (laws : Laws k) {tally : S → ℕ
         leads = λ q inside.
             omega (
               arith,
-              s.leads q (omega (arith, node_span k cells sound cell c at s.live)),
+              s.leads q (omega (arith, node_span sound _ at s.live)),
               ap (λ u. depth (way (shape k) u q)) here_is,
               ap depth (way_left (shape k) L c.element R q inside),
             );
@@ -137,7 +137,7 @@ module _ {E A S : Type 0} {k : Meaning E A S} (laws : Laws k) {tally : S → ℕ
           let listed' = listed_here ∙ to_right s.front left_atoms own_atoms right_atoms s.behind in
           let few' : Few k front' = few_left k front' (right_atoms ++ s.behind) (subst (Few k) listed' (few_tree k cells sound root live)) in
           record {
-            live = (node_good k cells sound cell c at s.live).right_live;
+            live = (node_good sound _ at s.live).right_live;
             front = front';
             behind = s.behind;
             listed = listed';
@@ -154,7 +154,7 @@ module _ {E A S : Type 0} {k : Meaning E A S} (laws : Laws k) {tally : S → ℕ
                 let there : base + far ≡ b + q = omega arith in
                 omega (
                   arith,
-                  s.leads far (omega (arith, node_span k cells sound cell c at s.live)),
+                  s.leads far (omega (arith, node_span sound _ at s.live)),
                   ap (λ (n : ℕ). depth (way (shape k) (tree cells root) n)) there,
                   ap (λ u. depth (way (shape k) u far)) here_is,
                   ap depth (way_right (shape k) L c.element R q),
@@ -165,7 +165,7 @@ module _ {E A S : Type 0} {k : Meaning E A S} (laws : Laws k) {tally : S → ℕ
           }
 
       pub sought_good : Good k cells cell c
-      sought_good = node_good k cells sound cell c at s.live
+      sought_good = node_good sound _ at s.live
 
       -- the summary that the left child tells
       pub sought_sum : {left : S} → left ≡ sum_at k cells c.left → left ≡ total k left_atoms
@@ -203,7 +203,7 @@ module _ {E A S : Type 0} {k : Meaning E A S} (laws : Laws k) {tally : S → ℕ
           omega (
             arith,
             ap (λ (m : ℕ). depth (way (shape k) (tree cells root) m)) place_far,
-            s.leads far (omega (arith, p.inside, node_span k cells sound cell c at s.live)),
+            s.leads far (omega (arith, p.inside, node_span sound _ at s.live)),
             ap (λ u. depth (way (shape k) u far)) here_is,
             ap depth (way_here (shape k) L c.element R n p.inside),
           ) in
@@ -214,5 +214,5 @@ module _ {E A S : Type 0} {k : Meaning E A S} (laws : Laws k) {tally : S → ℕ
 
       pub sought_path : (n place count : ℕ) → n < length own_atoms → place ≡ base + span (shape k) L + n → count ≡ passed + 1 → ByPath k cells root place count
       sought_path n place count low place_is count_is =
-          let on = comes_on k cells root cell passed base c at s.comes place n (node_live k cells sound cell c at s.live) (omega arith) low in
+          let on = comes_on k cells root cell passed base c at s.comes place n (node_live sound _ at s.live) (omega arith) low in
           path_counted k cells sound s.comes place count live on count_is

@@ -38,11 +38,11 @@ push-requires-else-at-before g c =
 
 pub loop-at-smaller-then-at-before : goal.loop-at-smaller-then-at-before
 loop-at-smaller-then-at-before g c =
-    omega (arith, node_count (g.K.Kind.meaning c.self.inside.kind.now) c.self.inside.cells.now c.self.invariant.sound _ c.cell_at-c.result c.cell_at-c.ensures c.loop-at.invariant.live)
+    omega (arith, node_count c.self.invariant.sound _ c.cell_at-c.ensures c.loop-at.invariant.live)
 
 pub loop-at-smaller : goal.loop-at-smaller
 loop-at-smaller g c =
-    omega (arith, node_count (g.K.Kind.meaning c.self.inside.kind.now) c.self.inside.cells.now c.self.invariant.sound _ c.cell_at-c.result c.cell_at-c.ensures c.loop-at.invariant.live)
+    omega (arith, node_count c.self.invariant.sound _ c.cell_at-c.ensures c.loop-at.invariant.live)
 
 pub loop-at-preserved-then-at-before : goal.loop-at-preserved-then-at-before
 loop-at-preserved-then-at-before g c =

@@ -11,7 +11,7 @@ cell_at-c-requires g c =
 pub at-requires : goal.at-requires
 at-requires g c =
     at_live c.self.view_is _
-    (node_good (g.K.Kind.meaning c.self.inside.kind.now) c.self.inside.cells.now c.self.invariant.sound _ c.cell_at-c.result c.cell_at-c.ensures c.loop-at.invariant.live).left_live
+    (node_good c.self.invariant.sound _ c.cell_at-c.ensures c.loop-at.invariant.live).left_live
 
 pub overflow_add-at : goal.overflow_add-at
 overflow_add-at g c =
@@ -23,7 +23,7 @@ overflow_add-at g c =
 
 pub loop-at-smaller-then-at-len : goal.loop-at-smaller-then-at-len
 loop-at-smaller-then-at-len g c =
-    omega (arith, node_count (g.K.Kind.meaning c.self.inside.kind.now) c.self.inside.cells.now c.self.invariant.sound _ c.cell_at-c.result c.cell_at-c.ensures c.loop-at.invariant.live)
+    omega (arith, node_count c.self.invariant.sound _ c.cell_at-c.ensures c.loop-at.invariant.live)
 
 pub loop-at-preserved-then-at-len : goal.loop-at-preserved-then-at-len
 loop-at-preserved-then-at-len g c =
@@ -37,12 +37,12 @@ overflow_add-past g c =
     let cells = c.self.inside.cells.now in
     let sound = c.self.invariant.sound in
     let before = at_width g.K.Kind.meaning c.self.view_is c.width-before.ensures c.at.ensures in
-    let own = c.extent.ensures (node_good k cells sound _ c.cell_at-c.result c.cell_at-c.ensures c.loop-at.invariant.live).lawful in
+    let own = c.extent.ensures (node_good sound _ c.cell_at-c.ensures c.loop-at.invariant.live).lawful in
     omega (
       arith,
       own,
       before,
-      node_span k cells sound _ c.cell_at-c.result c.cell_at-c.ensures c.loop-at.invariant.live,
+      node_span sound _ c.cell_at-c.ensures c.loop-at.invariant.live,
       span_few (g.K.Kind.laws c.self.inside.kind.now) sound _ c.loop-at.invariant.live,
     )
 
@@ -52,14 +52,14 @@ returns-then-at-past g c =
     let cells = c.self.inside.cells.now in
     let sound = c.self.invariant.sound in
     let before = at_width g.K.Kind.meaning c.self.view_is c.width-before.ensures c.at.ensures in
-    let own = c.extent.ensures (node_good k cells sound _ c.cell_at-c.result c.cell_at-c.ensures c.loop-at.invariant.live).lawful in
+    let own = c.extent.ensures (node_good sound _ c.cell_at-c.ensures c.loop-at.invariant.live).lawful in
     rw (← c.self.view_is)
     (fork_here (g.K.Kind.laws c.self.inside.kind.now) sound c.requires.some c.loop-at.invariant c.cell_at-c.ensures
     (omega (arith, c.if-at-len.false, before)) (omega (arith, own, c.if-at-past.true, before)))
 
 pub loop-at-smaller : goal.loop-at-smaller
 loop-at-smaller g c =
-    omega (arith, node_count (g.K.Kind.meaning c.self.inside.kind.now) c.self.inside.cells.now c.self.invariant.sound _ c.cell_at-c.result c.cell_at-c.ensures c.loop-at.invariant.live)
+    omega (arith, node_count c.self.invariant.sound _ c.cell_at-c.ensures c.loop-at.invariant.live)
 
 pub loop-at-preserved : goal.loop-at-preserved
 loop-at-preserved g c =
@@ -67,6 +67,6 @@ loop-at-preserved g c =
     let cells = c.self.inside.cells.now in
     let sound = c.self.invariant.sound in
     let before = at_width g.K.Kind.meaning c.self.view_is c.width-before.ensures c.at.ensures in
-    let own = c.extent.ensures (node_good k cells sound _ c.cell_at-c.result c.cell_at-c.ensures c.loop-at.invariant.live).lawful in
+    let own = c.extent.ensures (node_good sound _ c.cell_at-c.ensures c.loop-at.invariant.live).lawful in
     fork_right (g.K.Kind.laws c.self.inside.kind.now) sound c.requires.some c.loop-at.invariant c.cell_at-c.ensures _
     (omega (arith, own, c.if-at-past.false, before))

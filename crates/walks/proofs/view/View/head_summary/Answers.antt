@@ -1,5 +1,4 @@
-use Rattle.std.proofs.Common.{◌≤◌, ◌-◌, [], refl, sym, ap, ◌∙◌, subst, arith}
-use Rattle.walks.proofs.Views.{width}
+use Rattle.std.proofs.Common.{◌-◌, ap, ◌∙◌, arith}
 use Rattle.walks.proofs.Nodes.{node_good, node_count}
 use Rattle.walks.proofs.Sums.{width_is}
 use Rattle.walks.proofs.Summing.{head_named, head_whole, head_left, head_own, head_right}
@@ -21,7 +20,7 @@ cell_at-c-requires g c = head_named (g.K.Kind.laws c.self.inside.kind.now) c.sel
 
 pub loop-rest-smaller-then-rest-before : goal.loop-rest-smaller-then-rest-before
 loop-rest-smaller-then-rest-before g c =
-    omega (arith, node_count (g.K.Kind.meaning c.self.inside.kind.now) c.self.inside.cells.now c.self.invariant.sound _ c.cell_at-c.result c.cell_at-c.ensures c.loop-rest.invariant.live)
+    omega (arith, node_count c.self.invariant.sound _ c.cell_at-c.ensures c.loop-rest.invariant.live)
 
 pub loop-rest-preserved-then-rest-before : goal.loop-rest-preserved-then-rest-before
 loop-rest-preserved-then-rest-before g c =
@@ -29,13 +28,13 @@ loop-rest-preserved-then-rest-before g c =
     let laws = g.K.Kind.laws c.self.inside.kind.now in
     let cells = c.self.inside.cells.now in
     let sound = c.self.invariant.sound in
-    let good = node_good k cells sound _ c.cell_at-c.result c.cell_at-c.ensures c.loop-rest.invariant.live in
+    let good = node_good sound _ c.cell_at-c.ensures c.loop-rest.invariant.live in
     let before = c.width-before.ensures ∙ ap k.width c.summary_at-left.ensures ∙ width_is k laws cells sound _ good.left_live in
     head_left laws sound c.self.invariant.live c.loop-rest.invariant c.cell_at-c.ensures (omega (arith, c.if-rest-before.true, before))
 
 pub piece-requires : goal.piece-requires
 piece-requires g c =
-    let good = node_good (g.K.Kind.meaning c.self.inside.kind.now) c.self.inside.cells.now c.self.invariant.sound _ c.cell_at-c.result c.cell_at-c.ensures c.loop-rest.invariant.live in
+    let good = node_good c.self.invariant.sound _ c.cell_at-c.ensures c.loop-rest.invariant.live in
     let own = c.extent-own.ensures good.lawful in
     record {
       lawful = good.lawful;
@@ -49,7 +48,7 @@ returns-then-past-own g c =
     let laws = g.K.Kind.laws c.self.inside.kind.now in
     let cells = c.self.inside.cells.now in
     let sound = c.self.invariant.sound in
-    let good = node_good k cells sound _ c.cell_at-c.result c.cell_at-c.ensures c.loop-rest.invariant.live in
+    let good = node_good sound _ c.cell_at-c.ensures c.loop-rest.invariant.live in
     let before = c.width-before.ensures ∙ ap k.width c.summary_at-left.ensures ∙ width_is k laws cells sound _ good.left_live in
     let own = c.extent-own.ensures good.lawful in
     rw (← c.self.view_is)
@@ -59,7 +58,7 @@ returns-then-past-own g c =
 
 pub loop-rest-smaller : goal.loop-rest-smaller
 loop-rest-smaller g c =
-    omega (arith, node_count (g.K.Kind.meaning c.self.inside.kind.now) c.self.inside.cells.now c.self.invariant.sound _ c.cell_at-c.result c.cell_at-c.ensures c.loop-rest.invariant.live)
+    omega (arith, node_count c.self.invariant.sound _ c.cell_at-c.ensures c.loop-rest.invariant.live)
 
 pub loop-rest-preserved : goal.loop-rest-preserved
 loop-rest-preserved g c =
@@ -67,7 +66,7 @@ loop-rest-preserved g c =
     let laws = g.K.Kind.laws c.self.inside.kind.now in
     let cells = c.self.inside.cells.now in
     let sound = c.self.invariant.sound in
-    let good = node_good k cells sound _ c.cell_at-c.result c.cell_at-c.ensures c.loop-rest.invariant.live in
+    let good = node_good sound _ c.cell_at-c.ensures c.loop-rest.invariant.live in
     let before = c.width-before.ensures ∙ ap k.width c.summary_at-left.ensures ∙ width_is k laws cells sound _ good.left_live in
     let own = c.extent-own.ensures good.lawful in
     head_right laws sound c.self.invariant.live c.loop-rest.invariant c.cell_at-c.ensures _ _ _ _

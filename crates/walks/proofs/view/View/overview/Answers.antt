@@ -1,7 +1,6 @@
 use Rattle.std.proofs.Common.{◌≡◌, ℕ, ◌-◌, min, take, drop, sym, ap, ◌∙◌, subst, arith}
 use Rattle.kinds.specs.Kinds.{total}
 use Rattle.cells.specs.Cells.{tree, meant}
-use Rattle.cells.proofs.Lists.{some_in}
 use Rattle.walks.specs.Ranges.{Forked}
 use Rattle.walks.proofs.Views.{width, at_is, at_width, at_live}
 use Rattle.walks.proofs.Nodes.{node_good}
@@ -18,7 +17,7 @@ at-left-requires g c =
     let forked = subst (λ v. Forked (g.K.Kind.meaning v.kind) v.cells v.root c.args.from c.args.len parted) (sym c.self.view_is) c.fork-parted.ensures in
     let cell = c.cell_at-c.result in
     let at = c.cell_at-c.ensures in
-    at_live c.self.view_is _ (node_good k cells sound parted.cell cell at forked.live).left_live
+    at_live c.self.view_is _ (node_good sound _ at forked.live).left_live
 
 pub overflow_sub-own : goal.overflow_sub-own
 overflow_sub-own g c =
@@ -30,7 +29,7 @@ overflow_sub-own g c =
     let forked = subst (λ v. Forked (g.K.Kind.meaning v.kind) v.cells v.root c.args.from c.args.len parted) (sym c.self.view_is) c.fork-parted.ensures in
     let cell = c.cell_at-c.result in
     let at = c.cell_at-c.ensures in
-    let good = node_good k cells sound parted.cell cell at forked.live in
+    let good = node_good sound _ at forked.live in
     let before = at_width g.K.Kind.meaning c.self.view_is c.width-before.ensures c.at-left.ensures in
     let own = c.extent-own.ensures good.lawful in
     omega (arith, own, before, c.saturating_sub-skipped.ensures, parted_early laws sound forked at)
@@ -45,7 +44,7 @@ piece-middle-requires g c =
     let forked = subst (λ v. Forked (g.K.Kind.meaning v.kind) v.cells v.root c.args.from c.args.len parted) (sym c.self.view_is) c.fork-parted.ensures in
     let cell = c.cell_at-c.result in
     let at = c.cell_at-c.ensures in
-    let good = node_good k cells sound parted.cell cell at forked.live in
+    let good = node_good sound _ at forked.live in
     let before = at_width g.K.Kind.meaning c.self.view_is c.width-before.ensures c.at-left.ensures in
     let own = c.extent-own.ensures good.lawful in
     let early = parted_early laws sound forked at in
@@ -69,7 +68,7 @@ at-requires g c =
     let forked = subst (λ v. Forked (g.K.Kind.meaning v.kind) v.cells v.root c.args.from c.args.len parted) (sym c.self.view_is) c.fork-parted.ensures in
     let cell = c.cell_at-c.result in
     let at = c.cell_at-c.ensures in
-    at_live c.self.view_is _ (node_good k cells sound parted.cell cell at forked.live).right_live
+    at_live c.self.view_is _ (node_good sound _ at forked.live).right_live
 
 pub head_summary-head-requires : goal.head_summary-head-requires
 head_summary-head-requires g c =
@@ -81,7 +80,7 @@ head_summary-head-requires g c =
     let forked = subst (λ v. Forked (g.K.Kind.meaning v.kind) v.cells v.root c.args.from c.args.len parted) (sym c.self.view_is) c.fork-parted.ensures in
     let cell = c.cell_at-c.result in
     let at = c.cell_at-c.ensures in
-    let good = node_good k cells sound parted.cell cell at forked.live in
+    let good = node_good sound _ at forked.live in
     let before = at_width g.K.Kind.meaning c.self.view_is c.width-before.ensures c.at-left.ensures in
     let own = c.extent-own.ensures good.lawful in
     let there = ap (width g.K.Kind.meaning) (at_is c.self.view_is c.at.ensures) in
@@ -97,7 +96,7 @@ returns g c =
     let forked = subst (λ v. Forked (g.K.Kind.meaning v.kind) v.cells v.root c.args.from c.args.len parted) (sym c.self.view_is) c.fork-parted.ensures in
     let cell = c.cell_at-c.result in
     let at = c.cell_at-c.ensures in
-    let good = node_good k cells sound parted.cell cell at forked.live in
+    let good = node_good sound _ at forked.live in
     let before = at_width g.K.Kind.meaning c.self.view_is c.width-before.ensures c.at-left.ensures in
     let own = c.extent-own.ensures good.lawful in
     let rest = c.args.len - c.saturating_sub.result in

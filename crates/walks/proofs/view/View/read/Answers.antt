@@ -1,6 +1,5 @@
-use Rattle.std.proofs.Common.{◌≡◌, ◌<◌, length, Some, sym, subst}
+use Rattle.std.proofs.Common.{◌≡◌, Some, subst}
 use Rattle.std.specs.List.{slice_get}
-use Rattle.cells.proofs.Lists.{some_in}
 use Rattle.walks.proofs.Holding.{walked_reads, walked_by_path}
 use Rattle.walks.proofs.view.View.read.Goals as goal
 

@@ -26,11 +26,11 @@ cell_at-c-requires g c = tail_named (g.K.Kind.laws c.self.inside.kind.now) c.sel
 pub at-requires : goal.at-requires
 at-requires g c =
     at_live c.self.view_is _
-    (node_good (g.K.Kind.meaning c.self.inside.kind.now) c.self.inside.cells.now c.self.invariant.sound _ c.cell_at-c.result c.cell_at-c.ensures c.loop-at.invariant.live).left_live
+    (node_good c.self.invariant.sound _ c.cell_at-c.ensures c.loop-at.invariant.live).left_live
 
 pub loop-at-smaller-then-at-before : goal.loop-at-smaller-then-at-before
 loop-at-smaller-then-at-before g c =
-    omega (arith, node_count (g.K.Kind.meaning c.self.inside.kind.now) c.self.inside.cells.now c.self.invariant.sound _ c.cell_at-c.result c.cell_at-c.ensures c.loop-at.invariant.live)
+    omega (arith, node_count c.self.invariant.sound _ c.cell_at-c.ensures c.loop-at.invariant.live)
 
 pub loop-at-preserved-then-at-before : goal.loop-at-preserved-then-at-before
 loop-at-preserved-then-at-before g c =
@@ -40,7 +40,7 @@ loop-at-preserved-then-at-before g c =
 
 pub piece-requires : goal.piece-requires
 piece-requires g c =
-    let good = node_good (g.K.Kind.meaning c.self.inside.kind.now) c.self.inside.cells.now c.self.invariant.sound _ c.cell_at-c.result c.cell_at-c.ensures c.loop-at.invariant.live in
+    let good = node_good c.self.invariant.sound _ c.cell_at-c.ensures c.loop-at.invariant.live in
     let own = c.extent-own.ensures good.lawful in
     record {
       lawful = good.lawful;
@@ -51,7 +51,7 @@ piece-requires g c =
 pub returns-then-past-own : goal.returns-then-past-own
 returns-then-past-own g c =
     let before = at_width g.K.Kind.meaning c.self.view_is c.width-before.ensures c.at.ensures in
-    let own = c.extent-own.ensures (node_good (g.K.Kind.meaning c.self.inside.kind.now) c.self.inside.cells.now c.self.invariant.sound _ c.cell_at-c.result c.cell_at-c.ensures c.loop-at.invariant.live).lawful in
+    let own = c.extent-own.ensures (node_good c.self.invariant.sound _ c.cell_at-c.ensures c.loop-at.invariant.live).lawful in
     rw (← c.self.view_is)
     (tail_own (g.K.Kind.laws c.self.inside.kind.now) c.self.invariant.sound c.self.invariant.live c.loop-at.invariant c.cell_at-c.ensures (c.loop-at.at - c.width-before.result) _ _ _ _ _
     (omega (arith, c.if-at-before.false, before)) (omega (arith, own, c.if-past-own.true)) (omega (arith, own))
@@ -59,10 +59,10 @@ returns-then-past-own g c =
 
 pub loop-at-smaller : goal.loop-at-smaller
 loop-at-smaller g c =
-    omega (arith, node_count (g.K.Kind.meaning c.self.inside.kind.now) c.self.inside.cells.now c.self.invariant.sound _ c.cell_at-c.result c.cell_at-c.ensures c.loop-at.invariant.live)
+    omega (arith, node_count c.self.invariant.sound _ c.cell_at-c.ensures c.loop-at.invariant.live)
 
 pub loop-at-preserved : goal.loop-at-preserved
 loop-at-preserved g c =
     let before = at_width g.K.Kind.meaning c.self.view_is c.width-before.ensures c.at.ensures in
-    let own = c.extent-own.ensures (node_good (g.K.Kind.meaning c.self.inside.kind.now) c.self.inside.cells.now c.self.invariant.sound _ c.cell_at-c.result c.cell_at-c.ensures c.loop-at.invariant.live).lawful in
+    let own = c.extent-own.ensures (node_good c.self.invariant.sound _ c.cell_at-c.ensures c.loop-at.invariant.live).lawful in
     tail_right (g.K.Kind.laws c.self.inside.kind.now) c.self.invariant.sound c.self.invariant.live c.loop-at.invariant c.cell_at-c.ensures _ (omega (arith, own, c.if-at-before.false, c.if-past-own.false, before))
