@@ -127,7 +127,7 @@ one_more a i c x y at = written a i c x y (λ n. n + 1) at ∙ sym (ap (retained
 
 -- ---- retaining
 
-module _ {E A S : Type 0} (k : Meaning E A S) (a : List (Cell E S)) (i : ℕ) where
+module _ {E A S : Type 0} {k : Meaning E A S} {a : List (Cell E S)} {i : ℕ} where
   retains_at : (o : Option (Cell E S)) → slice_get a i ≡ o → linked o → Retains k a i (retained_at a i o)
   retains_at None e live = record {
     each = λ p rs arena. record {
@@ -151,8 +151,8 @@ module _ {E A S : Type 0} (k : Meaning E A S) (a : List (Cell E S)) (i : ℕ) wh
         here = λ p rs arena. remains_stays k a arena.sound (set a i (with_refs c n)) remains i (subst linked (sym e) live);
       }
 
-  pub retains : (b : List (Cell E S)) → b ≡ retained a i → Live a i → Retains k a i b
-  retains b e live = subst (Retains k a i) (sym e) (retains_at (slice_get a i) refl live)
+  pub retains : {b : List (Cell E S)} → b ≡ retained a i → Live a i → Retains k a i b
+  retains e live = subst (Retains k a i) (sym e) (retains_at (slice_get a i) refl live)
 
 -- ---- giving up
 
@@ -163,8 +163,8 @@ count_set a x c d at same j = ⊎_elim
     (cases_eq j x)
 
 -- the link names no cell
-pub given_up_none : {E A S : Type 0} (k : Meaning E A S) (a : List (Cell E S)) (p : Pool) (i : ℕ) → length a ≤ i → GivesUp k a p i a p None
-given_up_none k a p i past = record {
+pub given_up_none : {E A S : Type 0} {k : Meaning E A S} {a : List (Cell E S)} {p : Pool} {i : ℕ} → length a ≤ i → GivesUp k a p i a p None
+given_up_none {k} {a} {p} {i} past = record {
   was = tt;
   each = λ rs arena. rerooted k a p (i ∷ rs) arena rs (λ j h. let o = hit_other i j (λ q. omega arith) in omega arith);
   takes = takes_refl a 0;
@@ -173,10 +173,44 @@ given_up_none k a p i past = record {
   frees = omega arith;
 }
 
+-- the cell c as the first free one, before those of the pool
+abbrev first_free : {E S : Type 0} → Pool → Cell E S → Cell E S
+first_free p c = record { element = c.element; own = c.own; left = p.head; right = c.right; count = c.count; summary = c.summary; refs = 0 }
+
 module _ {E A S : Type 0} (k : Meaning E A S) (a : List (Cell E S)) (p : Pool) (i : ℕ) (c : Cell E S) (at : slice_get a i ≡ Some c) where
+  counted_freed : (rs : List ℕ) → c.refs ≡ 1 → Counted a (i ∷ rs) → Counted (set a i (first_free p c)) (c.left ∷ c.right ∷ rs)
+  counted_freed rs one counts j within =
+      let l = links_set a i c (first_free p c) j at in
+      let lc = links_live c.refs c j (omega arith) in
+      let o = counts j (simp length-set at within) in
+      ⊎_elim
+      (λ q. let h = ap (λ x. hit x j) (sym q) ∙ hit_same j in
+      let now = ap (refs_at (set a i (first_free p c))) q ∙ ap referred (nth_set_same a i (first_free p c) (some_in a i c at)) in
+      let was = ap (refs_at a) q ∙ ap referred at in
+      omega arith)
+      (λ ne. let h = hit_other i j ne in let same = ap referred (nth_set_other a i j (first_free p c) ne) in omega arith)
+      (cases_eq j i)
+
+  arena_freed : (rs : List ℕ) → c.refs ≡ 1 → Arena k a p (i ∷ rs) → Arena k (set a i (first_free p c)) (record { head = i; free = p.free + 1 }) (c.left ∷ c.right ∷ rs)
+  arena_freed rs one arena =
+      let u = used_set a i c (first_free p c) at in
+      let l = length-set a i (first_free p c) in
+      let n = arena.counts i (some_in a i c at) in
+      let r = ap referred at in
+      let h = hit_same i in
+      record {
+        sound = sound_freed k a i c at (first_free p c) arena.sound (omega arith) refl;
+        counts = counted_freed rs one arena.counts;
+        chain = subst (λ m. Chain m (set a i (first_free p c)) i) (sym (add-one p.free))
+            (first_free p c, nth_set_same a i (first_free p c) (some_in a i c at), refl, chain_kept a i (first_free p c) c at (omega arith) p.free p.head arena.chain);
+        all = omega (arith, arena.all);
+        long = omega (arith, arena.long);
+      }
+
+module _ {E A S : Type 0} {k : Meaning E A S} {a : List (Cell E S)} {p : Pool} {i : ℕ} {c : Cell E S} (at : slice_get a i ≡ Some c) where
   -- the cell has another reference
-  pub given_up_one : (b : List (Cell E S)) → b ≡ set a i (with_refs c (c.refs - 1)) → 1 < c.refs → GivesUp k a p i b p None
-  given_up_one b e more =
+  pub given_up_one : {b : List (Cell E S)} → b ≡ set a i (with_refs c (c.refs - 1)) → 1 < c.refs → GivesUp k a p i b p None
+  given_up_one e more =
       let n : ℕ = c.refs - 1 in
       subst (λ x. GivesUp k a p i x p None) (sym e) (record {
         was = tt;
@@ -187,46 +221,14 @@ module _ {E A S : Type 0} (k : Meaning E A S) (a : List (Cell E S)) (p : Pool) (
         frees = omega arith;
       })
 
-  -- it was the last: the cell is the first free one
-  abbrev pub freed : Cell E S
-  freed = record { element = c.element; own = c.own; left = p.head; right = c.right; count = c.count; summary = c.summary; refs = 0 }
-
-  counted_freed : (rs : List ℕ) → c.refs ≡ 1 → Counted a (i ∷ rs) → Counted (set a i freed) (c.left ∷ c.right ∷ rs)
-  counted_freed rs one counts j within =
-      let l = links_set a i c freed j at in
-      let lc = links_live c.refs c j (omega arith) in
-      let o = counts j (simp length-set at within) in
-      ⊎_elim
-      (λ q. let h = ap (λ x. hit x j) (sym q) ∙ hit_same j in
-      let now = ap (refs_at (set a i freed)) q ∙ ap referred (nth_set_same a i freed (some_in a i c at)) in
-      let was = ap (refs_at a) q ∙ ap referred at in
-      omega arith)
-      (λ ne. let h = hit_other i j ne in let same = ap referred (nth_set_other a i j freed ne) in omega arith)
-      (cases_eq j i)
-
-  arena_freed : (rs : List ℕ) → c.refs ≡ 1 → Arena k a p (i ∷ rs) → Arena k (set a i freed) (record { head = i; free = p.free + 1 }) (c.left ∷ c.right ∷ rs)
-  arena_freed rs one arena =
-      let u = used_set a i c freed at in
-      let l = length-set a i freed in
-      let n = arena.counts i (some_in a i c at) in
-      let r = ap referred at in
-      let h = hit_same i in
-      record {
-        sound = sound_freed k a i c at freed arena.sound (omega arith) refl;
-        counts = counted_freed rs one arena.counts;
-        chain = subst (λ m. Chain m (set a i freed) i) (sym (add-one p.free))
-            (freed, nth_set_same a i freed (some_in a i c at), refl, chain_kept a i freed c at (omega arith) p.free p.head arena.chain);
-        all = omega (arith, arena.all);
-        long = omega (arith, arena.long);
-      }
-
-  pub given_up_last : (b : List (Cell E S)) → b ≡ set a i freed → c.refs ≡ 1 → GivesUp k a p i b (record { head = i; free = p.free + 1 }) (Some c)
-  given_up_last b e one =
+  -- it was the last
+  pub given_up_last : {b : List (Cell E S)} → b ≡ set a i (first_free p c) → c.refs ≡ 1 → GivesUp k a p i b (record { head = i; free = p.free + 1 }) (Some c)
+  given_up_last e one =
       subst (λ x. GivesUp k a p i x (record { head = i; free = p.free + 1 }) (Some c)) (sym e) (record {
         was = at;
-        each = λ rs arena. arena_freed rs one arena;
-        takes = takes_none a (set a i freed) (remained_freed k a i c at freed refl) 0;
-        same_counts = count_set a i c freed at refl;
-        uses = let u = used_set a i c freed at in omega arith;
+        each = λ rs arena. arena_freed k a p i c at rs one arena;
+        takes = takes_none a (set a i (first_free p c)) (remained_freed k a i c at (first_free p c) refl) 0;
+        same_counts = count_set a i c (first_free p c) at refl;
+        uses = let u = used_set a i c (first_free p c) at in omega arith;
         frees = omega arith;
       })

@@ -57,6 +57,10 @@ module _ {E A S : Type 0} (k : Meaning E A S) where
     pub moved : Moved a p rs b q (r ∷ []) n
     pub tree_is : seen flip b r ≡ t
 
+  -- so from the roots xs, whatever else is owned
+  abbrev pub Makes : Bool → List (Cell E S) → Pool → List ℕ → List (Cell E S) → Pool → ℕ → Tree E → ℕ → Type 0
+  Makes flip a p xs b q r t n = (rs : List ℕ) → Arena k a p (xs ++ rs) → Yields flip a p rs b q r t n
+
   -- the roots that are owned once a reference is given up: where it was the last to a cell, the cell's children
   abbrev pub owing : Option (Cell E S) → List ℕ → List ℕ
   owing None rs = rs

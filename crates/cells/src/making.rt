@@ -1,10 +1,10 @@
 // A new cell over two trees.
-ghost use Rattle.std.specs.Prelude.{◌≡◌, ℕ, ◌+◌, ◌<◌, false, List, ◌∷◌};
+ghost use Rattle.std.specs.Prelude.{◌≡◌, ℕ, ◌+◌, ◌<◌, false, List, [], ◌∷◌};
 ghost use Rattle.balance.specs.Trees.{node};
 ghost use Rattle.cells.specs.Cells.{tree};
-ghost use Rattle.cells.specs.References.{Arena};
+ghost use Rattle.cells.specs.References.{Arena, Owned};
 ghost use Rattle.cells.specs.Lent.{SameLoan};
-ghost use Rattle.cells.specs.Moves.{Fits, Yields};
+ghost use Rattle.cells.specs.Moves.{Fits, Makes, Yields};
 
 use crate::cell::Cell;
 use crate::item::Item;
@@ -23,11 +23,10 @@ pub fn make<K: Kind>(
     item: Item<K::Element, K::Summary>,
     right: u32,
 ) -> u32
-    requires owned { (rs : List ℕ) × Arena (K.meaning kind.now) cells.old pool.old (left ∷ right ∷ rs) }
+    requires owned { Owned (K.meaning kind.now) cells.old pool.old (left ∷ right ∷ []) }
     requires fits { Fits (K.meaning kind.now) (tree cells.old left) item (tree cells.old right) }
     requires some { 0 < pool.old.free }
-    ensures yields { (rs : List ℕ) → Arena (K.meaning kind.now) cells.old pool.old (left ∷ right ∷ rs)
-        → Yields (K.meaning kind.now) false cells.old pool.old rs cells.new pool.new result
+    ensures yields { Makes (K.meaning kind.now) false cells.old pool.old (left ∷ right ∷ []) cells.new pool.new result
         (node (tree cells.old left) item.element (tree cells.old right)) 1 }
     ensures taken { pool.new.free + 1 ≡ pool.old.free }
 {

@@ -2,7 +2,7 @@
 ghost use Rattle.std.specs.Prelude.{◌≡◌, ℕ, ◌^◌, ◌<◌, List, [], ◌∷◌, length, slice_set};
 ghost use Rattle.cells.specs.declared.pool.Pool.{Pool};
 ghost use Rattle.cells.specs.Cells.{Live};
-ghost use Rattle.cells.specs.References.{Arena, Holds};
+ghost use Rattle.cells.specs.References.{Arena, Holds, Owned};
 ghost use Rattle.cells.specs.Lent.{SameLoan};
 ghost use Rattle.cells.specs.Moves.{retained, Retains, GivesUp};
 
@@ -11,7 +11,8 @@ use crate::pool::Pool;
 use crate::store::Store;
 use kinds::Kind;
 
-// Owns what `i` names once more. The pool is not touched, whichever it is.
+// Owns what `i` names once more. The pool is not touched, whichever it is. The cell is written by index: of what is written
+// through `get_mut` no contract tells.
 pub fn retain<K: Kind>(kind: &K, cells: &mut [Cell<K::Element, K::Summary>], i: u32)
     requires holds { (p : Pool) × Holds (K.meaning kind.now) cells.old p [] (2 ^ 30) }
     requires live { Live cells.old i }
@@ -31,7 +32,7 @@ pub fn give_up<K: Kind>(
     pool: &mut Pool,
     i: u32,
 ) -> Option<Cell<K::Element, K::Summary>>
-    requires { (rs : List ℕ) × Arena (K.meaning kind.now) cells.old pool.old (i ∷ rs) }
+    requires { Owned (K.meaning kind.now) cells.old pool.old (i ∷ []) }
     ensures { GivesUp (K.meaning kind.now) cells.old pool.old i cells.new pool.new result }
 {
     let c = *cells.get(i as usize)?;

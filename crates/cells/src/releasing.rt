@@ -1,8 +1,8 @@
 // Giving a root back. Links that are owed stand on a stack in fixed memory; a tree's balance keeps it short.
-ghost use Rattle.std.specs.Prelude.{◌≡◌, ℕ, ◌<◌, ◌≤◌, List, ◌∷◌};
+ghost use Rattle.std.specs.Prelude.{◌≡◌, ℕ, ◌<◌, ◌≤◌, List, [], ◌∷◌};
 ghost use Rattle.balance.specs.Levels.{most};
 ghost use Rattle.cells.specs.Cells.{cell_count};
-ghost use Rattle.cells.specs.References.{Arena, NoneLost};
+ghost use Rattle.cells.specs.References.{Arena, NoneLost, Owned};
 ghost use Rattle.cells.specs.Lent.{SameLoan};
 ghost use Rattle.cells.specs.Moves.{Releases};
 
@@ -20,7 +20,7 @@ pub fn release<K: Kind>(
     pool: &mut Pool,
     root: u32,
 )
-    requires owned { (rs : List ℕ) × Arena (K.meaning kind.now) cells.old pool.old (root ∷ rs) }
+    requires owned { Owned (K.meaning kind.now) cells.old pool.old (root ∷ []) }
     requires few { cell_count cells.old root ≤ most }
     ensures { (rs : List ℕ) → Arena (K.meaning kind.now) cells.old pool.old (root ∷ rs)
         → Releases (K.meaning kind.now) cells.old pool.old rs cells.new pool.new }

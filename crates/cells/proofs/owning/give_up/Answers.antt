@@ -7,16 +7,15 @@ use Rattle.cells.proofs.owning.give_up.Goals as goal
 pub returns-in_err-c : goal.returns-in_err-c
 returns-in_err-c g c =
     subst (GivesUp (g.K.Kind.meaning c.args.kind.now) c.args.cells.now c.args.pool.now c.args.i c.args.cells.now c.args.pool.now) (sym c.from_residual.ensures)
-    (given_up_none (g.K.Kind.meaning c.args.kind.now) c.args.cells.now c.args.pool.now c.args.i c.in_err-c.ensures.lookup.3)
+    (given_up_none c.in_err-c.ensures.lookup.3)
 
 pub returns-then-c-gt1 : goal.returns-then-c-gt1
 returns-then-c-gt1 g c =
     let at = slice_get_read c.args.cells.now _ c.args.i c.in_ok-c.field-0.now refl c.in_ok-c.ensures.lookup.3.0 c.in_ok-c.ensures.lookup.1 in
-    given_up_one (g.K.Kind.meaning c.args.kind.now) c.args.cells.now c.args.pool.now c.args.i _ at _
-    (one_fewer c.args.cells.now c.args.i _ _ _ at) c.if-c-gt1.true
+    given_up_one at (one_fewer c.args.cells.now c.args.i _ _ _ at) c.if-c-gt1.true
 
 pub returns : goal.returns
 returns g c =
     let at = slice_get_read c.args.cells.now _ c.args.i c.in_ok-c.field-0.now refl c.in_ok-c.ensures.lookup.3.0 c.in_ok-c.ensures.lookup.1 in
     let live = owned_refs (g.K.Kind.meaning c.args.kind.now) c.args.cells.now c.args.pool.now c.args.i _ at c.requires.0 c.requires.1 in
-    given_up_last (g.K.Kind.meaning c.args.kind.now) c.args.cells.now c.args.pool.now c.args.i _ at _ refl (omega (arith, c.if-c-gt1.false))
+    given_up_last at refl (omega (arith, c.if-c-gt1.false))

@@ -14,9 +14,9 @@ overflow_add-cells g c =
 pub returns-then-i-cells : goal.returns-then-i-cells
 returns-then-i-cells g c =
     let e = one_more c.args.cells.now c.args.i _ c.index-cells-i.result c.index-cells-i-then-i-cells.result (slice_get-get_or c.args.cells.now c.args.i c.index-cells-i.result c.if-i-cells.true) in
-    record { exact = e; retains = retains (g.K.Kind.meaning c.args.kind.now) c.args.cells.now c.args.i _ e c.requires.live }
+    record { exact = e; retains = retains e c.requires.live }
 
 pub returns-else-i-cells : goal.returns-else-i-cells
 returns-else-i-cells g c =
     let e = sym (ap (retained_at c.args.cells.now c.args.i) (slice_get_past c.args.cells.now c.args.i c.if-i-cells.false)) in
-    record { exact = e; retains = retains (g.K.Kind.meaning c.args.kind.now) c.args.cells.now c.args.i c.args.cells.now e c.requires.live }
+    record { exact = e; retains = retains e c.requires.live }

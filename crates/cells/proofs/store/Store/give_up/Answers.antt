@@ -26,10 +26,9 @@ overflow_sub-self g c = let same = ap (λ d. d.refs) (get_or_from_slice_get c.ar
 
 pub returns-then-c-gt1-clause-given : goal.returns-then-c-gt1-clause-given
 returns-then-c-gt1-clause-given g c =
-    given_up_one (g.K.Kind.meaning c.args.self.now.kind.now) c.args.self.now.cells.now c.args.self.now.pool c.args.i _ c.in_ok-c.ensures _
-    (one_fewer c.args.self.now.cells.now c.args.i _ _ _ c.in_ok-c.ensures) c.if-c-gt1.true
+    given_up_one c.in_ok-c.ensures (one_fewer c.args.self.now.cells.now c.args.i _ _ _ c.in_ok-c.ensures) c.if-c-gt1.true
 
 pub returns-clause-given : goal.returns-clause-given
 returns-clause-given g c =
     let live = owned_refs (g.K.Kind.meaning c.args.self.now.kind.now) c.args.self.now.cells.now c.args.self.now.pool c.args.i _ c.in_ok-c.ensures c.requires.0 c.requires.1 in
-    given_up_last (g.K.Kind.meaning c.args.self.now.kind.now) c.args.self.now.cells.now c.args.self.now.pool c.args.i _ c.in_ok-c.ensures _ refl (omega (arith, c.if-c-gt1.false))
+    given_up_last c.in_ok-c.ensures refl (omega (arith, c.if-c-gt1.false))

@@ -17,10 +17,8 @@ returns-then-i-self-clause-exact g c =
 
 pub returns-then-i-self-clause-retains : goal.returns-then-i-self-clause-retains
 returns-then-i-self-clause-retains g c =
-    retains (g.K.Kind.meaning c.args.self.now.kind.now) c.args.self.now.cells.now c.args.i _
-    (one_more c.args.self.now.cells.now c.args.i _ c.index-self-i.result c.index-self-i-then-i-self.result (slice_get-get_or c.args.self.now.cells.now c.args.i c.index-self-i.result c.if-i-self.true)) c.requires.live
+    retains (one_more c.args.self.now.cells.now c.args.i _ c.index-self-i.result c.index-self-i-then-i-self.result (slice_get-get_or c.args.self.now.cells.now c.args.i c.index-self-i.result c.if-i-self.true)) c.requires.live
 
 pub returns-else-i-self-clause-retains : goal.returns-else-i-self-clause-retains
 returns-else-i-self-clause-retains g c =
-    retains (g.K.Kind.meaning c.args.self.now.kind.now) c.args.self.now.cells.now c.args.i c.args.self.now.cells.now
-    (sym (ap (retained_at c.args.self.now.cells.now c.args.i) (slice_get_past c.args.self.now.cells.now c.args.i c.if-i-self.false))) c.requires.live
+    retains (sym (ap (retained_at c.args.self.now.cells.now c.args.i) (slice_get_past c.args.self.now.cells.now c.args.i c.if-i-self.false))) c.requires.live
