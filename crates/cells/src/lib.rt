@@ -11,6 +11,7 @@ mod pool;
 mod read;
 mod releasing;
 mod starting;
+mod store;
 
 pub use cell::{Cell, NONE};
 pub use item::Item;
@@ -21,3 +22,4 @@ pub use pool::Pool;
 pub use read::{cell_at, count_at, summary_at};
 pub use releasing::{free, release};
 pub use starting::start;
+pub use store::Store;

@@ -4,6 +4,7 @@ ghost use Rattle.std.specs.List.{slice_get};
 ghost use Rattle.cells.specs.Cells.{cell_count, sum_at};
 
 use crate::cell::Cell;
+use crate::store::Store;
 use kinds::Kind;
 
 pub fn cell_at<E: Copy, S: Copy>(cells: &[Cell<E, S>], i: u32) -> Cell<E, S>
@@ -27,4 +28,32 @@ pub fn summary_at<K: Kind>(kind: &K, cells: &[Cell<K::Element, K::Summary>], i: 
     cells
         .get(i as usize)
         .map_or_else(|| kind.empty(), |c| c.summary)
+}
+
+impl<K: Kind> Store<'_, K> {
+    // The cell that `i` names, if any.
+    pub(crate) fn get(&self, i: u32) -> Option<Cell<K::Element, K::Summary>>
+        ensures { slice_get self.now.cells.now i ≡ result }
+    {
+        self.cells.get(i as usize).copied()
+    }
+
+    pub fn cell_at(&self, i: u32) -> Cell<K::Element, K::Summary>
+        requires { i < length self.now.cells.now }
+        ensures { slice_get self.now.cells.now i ≡ Some result }
+    {
+        cell_at(self.cells, i)
+    }
+
+    pub fn count_at(&self, i: u32) -> u32
+        ensures { result ≡ cell_count self.now.cells.now i }
+    {
+        count_at(self.cells, i)
+    }
+
+    pub fn summary_at(&self, i: u32) -> K::Summary
+        ensures { result ≡ sum_at (K.meaning self.now.kind.now) self.now.cells.now i }
+    {
+        summary_at(self.kind, self.cells, i)
+    }
 }

@@ -1,5 +1,5 @@
 -- The loop up a path of passed cells.
-use Rattle.std.proofs.Common.{◌≡◌, ℕ, zero, suc, ◌+◌, ◌-◌, ◌*◌, ◌^◌, ◌<◌, ◌≤◌, Bool, List, [], ◌∷◌, ◌++◌, length, get_or, reverse, sym, refl, ap, ◌∙◌, subst, arith}
+use Rattle.std.proofs.Common.{◌≡◌, ℕ, zero, suc, ◌+◌, ◌-◌, ◌*◌, ◌^◌, ◌<◌, ◌≤◌, Bool, List, [], ◌∷◌, ◌++◌, length, get_or, reverse, Some, None, Option, sym, refl, ap, ◌∙◌, subst, arith}
 use Rattle.std.specs.List.{slice_get}
 use Rattle.std.proofs.lemmas.List.{get_or-reverse, length-reverse}
 use Rattle.std.proofs.lemmas.Grind.{get_or_default_zero}
@@ -8,9 +8,10 @@ use Rattle.balance.specs.Trees.{Tree}
 use Rattle.cells.specs.declared.cell.Cell.{Cell}
 use Rattle.cells.specs.declared.pool.Pool.{Pool}
 use Rattle.cells.specs.Cells.{seen}
-use Rattle.cells.specs.Reach.{child, follow, Stays, Reached}
+use Rattle.cells.specs.Reach.{child, follow, Alike, Stays, Reached}
 use Rattle.cells.specs.References.{Arena, Holds}
 use Rattle.cells.specs.Moves.{Moves, Makes}
+use Rattle.cells.proofs.Lists.{some_in, none_past}
 use Rattle.cells.proofs.Staying.{stays_refl, stays_trans, follow_same}
 use Rattle.cells.proofs.Names.{hit_same}
 use Rattle.cells.proofs.Moving.{moves_none, moves_then, seen_stays}
@@ -27,6 +28,12 @@ pub stays_below : {E S : Type 0} (a b : List (Cell E S)) (r : ℕ) (path : List 
 stays_below a b r [] stays = stays
 stays_below a b r (s ∷ path) stays = stays_below a b (child s r (slice_get a r)) path (λ p. stays (s ∷ p))
 
+-- what is alike to a cell is a cell
+alike_inside : {E S : Type 0} (a b : List (Cell E S)) (i : ℕ) (o p : Option (Cell E S)) → slice_get a i ≡ o → slice_get b i ≡ p → Alike o p → i < length a → i < length b
+alike_inside a b i None p ea eb alike h = absurd (omega (arith, none_past a i ea))
+alike_inside a b i (Some c) None ea eb alike h = absurd alike
+alike_inside a b i (Some c) (Some d) ea eb alike h = some_in b i d eb
+
 module _ {E S : Type 0} (flip : Bool) (a : List (Cell E S)) (top : ℕ) where
   -- a descent is a path
   pub descent_path : (n : ℕ) → ((path : List Bool) × (follow a top path ≡ descent flip a top n))
@@ -38,6 +45,11 @@ module _ {E S : Type 0} (flip : Bool) (a : List (Cell E S)) (top : ℕ) where
 
   pub descent_stays : (b : List (Cell E S)) → Stays a b top → (n : ℕ) → Stays a b (descent flip a top n)
   descent_stays b stays n = let d = descent_path n in subst (Stays a b) d.1 (stays_below a b top d.0 stays)
+
+  pub descent_inside : (b : List (Cell E S)) → Stays a b top → (n : ℕ) → descent flip a top n < length a → descent flip a top n < length b
+  descent_inside b stays n h =
+      let d = descent flip a top n in
+      alike_inside a b d (slice_get a d) (slice_get b d) refl refl (descent_stays b stays n []) h
 
   pub descent_reached : (b : List (Cell E S)) → Stays a b top → (rest : List ℕ) (n : ℕ) → Reached b (top ∷ rest) (descent flip a top n)
   descent_reached b stays rest n =
@@ -69,7 +81,7 @@ climbing_start k flip a p low top path sits =
 -- the turn of the loop at the cell i
 pub record Turn {E A S : Type 0} (k : Meaning E A S) (flip : Bool) (a : List (Cell E S)) (p : Pool) (low top : ℕ) (path : List ℕ) (b : List (Cell E S)) (q : Pool) (x passed i : ℕ) : Type 0 where
   pub above : Above k b q x i (2 ^ 26)
-  pub inside : length b ≡ length a → i < length b
+  pub inside : i < length b
   pub sits : Sits k (raised (seen flip b x) (seen flip b i))
   pub some : 3 * length path ≤ p.free → 3 ≤ q.free
   pub next : (c : List (Cell E S)) (o : Pool) (r : ℕ) → (Makes k flip b q (x ∷ []) c o r (raised (seen flip b x) (seen flip b i)) 3)
@@ -109,7 +121,7 @@ module _ {E A S : Type 0} {k : Meaning E A S} {flip : Bool} {a : List (Cell E S)
         reached = subst (Reached b (top ∷ holds.rest)) (sym i_is) (descent_reached flip a top b climbing.stays holds.rest m);
         few = omega (arith, holds.few);
       };
-      inside = λ same. let h = tabled.inside m within in omega arith;
+      inside = subst (λ i. i < length b) (sym i_is) (descent_inside flip a top b climbing.stays m (subst (λ i. i < length a) (tabled.are m within) (tabled.inside m within)));
       sits = subst (λ t. Sits k (raised (seen flip b x) t)) (sym i_tree) sits_now.0;
       some = λ some. omega (arith, (climbing.each holds.rest holds.arena).free, climbing.left);
       next = λ c o r raise.

@@ -1,5 +1,5 @@
 -- The levels that a light tree L passes on the near side of a heavy one, and what is made of them on the way up.
-use Rattle.std.proofs.Common.{◌≡◌, ℕ, zero, suc, ◌*◌, ◌<◌, ◌≤◌, Bool, true, false, ltb, List, [], length, get_or, Some, None, Option, sym, refl, ap, ◌∙◌, subst, arith, le-ltb, lt-ltb}
+use Rattle.std.proofs.Common.{◌≡◌, ℕ, zero, suc, ◌*◌, ◌<◌, ◌≤◌, Bool, true, false, ltb, List, [], length, Some, None, Option, sym, refl, ap, ◌∙◌, subst, arith, le-ltb, lt-ltb}
 use Rattle.std.specs.List.{slice_get}
 use Rattle.kinds.specs.Kinds.{Meaning}
 use Rattle.balance.specs.Trees.{Tree, leaf, node, count, weight, elements, Balanced, Δ}
@@ -13,13 +13,13 @@ use Rattle.balance.proofs.Links.{hung_elements, hung_balanced}
 use Rattle.cells.specs.declared.cell.Cell.{Cell}
 use Rattle.cells.specs.Cells.{shape, seen, near, far, linked, Live, Sound}
 use Rattle.cells.specs.Reach.{child, Alike, Stays}
-use Rattle.cells.proofs.Lists.{some_in, none_past}
+use Rattle.cells.proofs.Lists.{none_past}
 use Rattle.cells.proofs.Staying.{reached_live}
 use Rattle.cells.proofs.Moving.{seen_stays}
 use Rattle.links.specs.Sitting.{Sits, Linkable}
 use Rattle.links.specs.Climbing.{raised, descent, climbed, Climbs, Sunk}
 use Rattle.links.proofs.Sides.{seen_balanced, seen_opened}
-use Rattle.links.proofs.Climbs.{descent_path, descent_stays, climbed_more, climbed_none}
+use Rattle.links.proofs.Climbs.{descent_path, descent_stays, descent_inside, climbed_more, climbed_none}
 use Rattle.links.proofs.Sinks.{near_child, descent_none, descent_more}
 
 -- ---- hanging, as the theory has it
@@ -41,11 +41,6 @@ same_span k t u e = span_extents (shape k) t ∙ ap (extents (shape k)) e ∙ sy
 some_at : {X : Type 0} (a : List X) (i : ℕ) (o : Option X) → slice_get a i ≡ o → i < length a → ((x : X) × (slice_get a i ≡ Some x))
 some_at a i None e h = absurd (omega (arith, none_past a i e))
 some_at a i (Some x) e h = (x, e)
-
-alike_inside : {E S : Type 0} (a b : List (Cell E S)) (i : ℕ) (o p : Option (Cell E S)) → slice_get a i ≡ o → slice_get b i ≡ p → Alike o p → i < length a → i < length b
-alike_inside a b i None p ea eb alike h = absurd (omega (arith, none_past a i ea))
-alike_inside a b i (Some c) None ea eb alike h = absurd alike
-alike_inside a b i (Some c) (Some d) ea eb alike h = some_in b i d eb
 
 alike_child : {E S : Type 0} (side : Bool) (i : ℕ) (o p : Option (Cell E S)) → Alike o p → child side i o ≡ child side i p
 alike_child side i None None h = refl
@@ -71,9 +66,8 @@ module _ {E A S : Type 0} (k : Meaning E A S) (flip : Bool) (a b : List (Cell E 
       low = sunk.tabled.low;
       are = λ j h. sunk.tabled.are j h ∙ sym (descent_same j);
       inside = λ j h.
-          let i = get_or path j 0 in
-          let alike : Alike (slice_get a i) (slice_get b i) = subst (λ i. Alike (slice_get a i) (slice_get b i)) (sym (sunk.tabled.are j h)) (descent_stays flip a top b stays j []) in
-          alike_inside a b i (slice_get a i) (slice_get b i) refl refl alike (sunk.tabled.inside j h);
+          let e = sunk.tabled.are j h in
+          subst (λ i. i < length b) (sym e) (descent_inside flip a top b stays j (subst (λ i. i < length a) e (sunk.tabled.inside j h)));
     };
     passed = λ j h. subst (λ t. Δ * weight light < weight t) (sym (level_same j)) (sunk.passed j h);
     foot_is = sunk.foot_is ∙ sym (descent_same (length path));

@@ -3,57 +3,51 @@
 ghost use Rattle.std.specs.Prelude.{◌*◌, ◌^◌, ◌<◌, ◌≤◌, [], ◌∷◌, length};
 ghost use Rattle.cells.specs.Cells.{seen};
 ghost use Rattle.cells.specs.References.{Holds};
+ghost use Rattle.cells.specs.Lent.{SameLoan};
 ghost use Rattle.cells.specs.Moves.{Makes};
 ghost use Rattle.links.specs.Sitting.{Sits};
 ghost use Rattle.links.specs.Climbing.{raised, climbed, Climbs, Tabled, Above, Raises};
 
 use crate::facing::far_of;
 use crate::rebalancing::rebalance;
-use cells::{Cell, Item, Path, Pool, cell_at, retain};
+use cells::{Item, Path, Store};
 use kinds::Kind;
 
 // The tree under the cell `i` with the tree of `low` in the place of its near child.
-pub fn raise<K: Kind>(
-    kind: &K,
-    cells: &mut [Cell<K::Element, K::Summary>],
-    pool: &mut Pool,
-    flip: bool,
-    low: u32,
-    i: u32,
-) -> u32
-    requires above { Above (K.meaning kind.now) cells.old pool.old low i (2 ^ 26) }
-    requires inside { i < length cells.old }
-    requires sits { Sits (K.meaning kind.now) (raised (seen flip cells.old low) (seen flip cells.old i)) }
-    requires some { 3 ≤ pool.old.free }
-    ensures { Makes (K.meaning kind.now) flip cells.old pool.old (low ∷ []) cells.new pool.new result
-        (raised (seen flip cells.old low) (seen flip cells.old i)) 3 }
+pub fn raise<K: Kind>(store: &mut Store<'_, K>, flip: bool, low: u32, i: u32) -> u32
+    requires above { Above (K.meaning store.old.kind.now) store.old.cells.now store.old.pool low i (2 ^ 26) }
+    requires inside { i < length store.old.cells.now }
+    requires sits { Sits (K.meaning store.old.kind.now) (raised (seen flip store.old.cells.now low) (seen flip store.old.cells.now i)) }
+    requires some { 3 ≤ store.old.pool.free }
+    ensures same { SameLoan store.old store.new }
+    ensures yields { Makes (K.meaning store.old.kind.now) flip store.old.cells.now store.old.pool (low ∷ []) store.new.cells.now store.new.pool result
+        (raised (seen flip store.old.cells.now low) (seen flip store.old.cells.now i)) 3 }
 {
-    let c = cell_at(cells, i);
+    let c = store.cell_at(i);
     let far = far_of(flip, c);
-    retain(kind, cells, far);
-    rebalance(kind, cells, pool, flip, low, Item::from(c), far)
+    store.retain(far);
+    rebalance(store, flip, low, Item::from(c), far)
 }
 
 // Up from `low` through the cells of the path, the last first, to the top of the tree of `right`.
 pub fn climb<K: Kind>(
-    kind: &K,
-    cells: &mut [Cell<K::Element, K::Summary>],
-    pool: &mut Pool,
+    store: &mut Store<'_, K>,
     flip: bool,
     low: u32,
     right: u32,
     path: &Path,
 ) -> u32
-    requires holds { Holds (K.meaning kind.now) cells.old pool.old (low ∷ right ∷ []) (2 ^ 25) }
-    requires tabled { Tabled flip cells.old right path.now.items }
-    requires climbs { Climbs (K.meaning kind.now) flip cells.old right (length path.now.items) (seen flip cells.old low) }
-    requires some { 3 * length path.now.items ≤ pool.old.free }
-    ensures { Raises (K.meaning kind.now) flip cells.old pool.old low right cells.new pool.new result
-        (climbed flip cells.old right (length path.now.items) (seen flip cells.old low)) (3 * length path.now.items) }
+    requires holds { Holds (K.meaning store.old.kind.now) store.old.cells.now store.old.pool (low ∷ right ∷ []) (2 ^ 25) }
+    requires tabled { Tabled flip store.old.cells.now right path.now.items }
+    requires climbs { Climbs (K.meaning store.old.kind.now) flip store.old.cells.now right (length path.now.items) (seen flip store.old.cells.now low) }
+    requires some { 3 * length path.now.items ≤ store.old.pool.free }
+    ensures same { SameLoan store.old store.new }
+    ensures raises { Raises (K.meaning store.old.kind.now) flip store.old.cells.now store.old.pool low right store.new.cells.now store.new.pool result
+        (climbed flip store.old.cells.now right (length path.now.items) (seen flip store.old.cells.now low)) (3 * length path.now.items) }
 {
     let mut x = low;
     for &i in path.as_slice().iter().rev() {
-        x = raise(kind, cells, pool, flip, x, i);
+        x = raise(store, flip, x, i);
     }
     x
 }

@@ -4,9 +4,10 @@ ghost use Rattle.std.specs.Prelude.{◌≡◌, ◌+◌, ◌<◌, [], ◌∷◌};
 ghost use Rattle.balance.specs.Trees.{node};
 ghost use Rattle.cells.specs.Cells.{seen, near, far};
 ghost use Rattle.cells.specs.References.{Owned};
+ghost use Rattle.cells.specs.Lent.{SameLoan};
 ghost use Rattle.cells.specs.Moves.{Fits, Makes};
 
-use cells::{Cell, Item, Pool, make};
+use cells::{Cell, Item, Store};
 use kinds::Kind;
 
 // The child seen on the left.
@@ -26,23 +27,22 @@ pub fn far_of<E: Copy, S: Copy>(flip: bool, c: Cell<E, S>) -> u32
 // A new cell, seen with the tree of `left` on the left. A helper that orders any call's roots by `flip` would state that
 // call's contract once more, so each such call has its own.
 pub fn make_facing<K: Kind>(
-    kind: &K,
-    cells: &mut [Cell<K::Element, K::Summary>],
-    pool: &mut Pool,
+    store: &mut Store<'_, K>,
     flip: bool,
     left: u32,
     item: Item<K::Element, K::Summary>,
     right: u32,
 ) -> u32
-    requires owned { Owned (K.meaning kind.now) cells.old pool.old (left ∷ right ∷ []) }
-    requires fits { Fits (K.meaning kind.now) (seen flip cells.old left) item (seen flip cells.old right) }
-    requires some { 0 < pool.old.free }
-    ensures yields { Makes (K.meaning kind.now) flip cells.old pool.old (left ∷ right ∷ []) cells.new pool.new result
-        (node (seen flip cells.old left) item.element (seen flip cells.old right)) 1 }
-    ensures taken { pool.new.free + 1 ≡ pool.old.free }
+    requires owned { Owned (K.meaning store.old.kind.now) store.old.cells.now store.old.pool (left ∷ right ∷ []) }
+    requires fits { Fits (K.meaning store.old.kind.now) (seen flip store.old.cells.now left) item (seen flip store.old.cells.now right) }
+    requires some { 0 < store.old.pool.free }
+    ensures same { SameLoan store.old store.new }
+    ensures yields { Makes (K.meaning store.old.kind.now) flip store.old.cells.now store.old.pool (left ∷ right ∷ []) store.new.cells.now store.new.pool result
+        (node (seen flip store.old.cells.now left) item.element (seen flip store.old.cells.now right)) 1 }
+    ensures taken { store.new.pool.free + 1 ≡ store.old.pool.free }
 {
     if flip {
-        return make(kind, cells, pool, right, item, left);
+        return store.make(right, item, left);
     }
-    make(kind, cells, pool, left, item, right)
+    store.make(left, item, right)
 }

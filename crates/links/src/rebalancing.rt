@@ -4,6 +4,7 @@ ghost use Rattle.balance.specs.Trees.{node};
 ghost use Rattle.balance.specs.Links.{rotated, rebalanced};
 ghost use Rattle.cells.specs.Cells.{seen};
 ghost use Rattle.cells.specs.References.{Holds};
+ghost use Rattle.cells.specs.Lent.{SameLoan};
 ghost use Rattle.cells.specs.Moves.{Makes};
 ghost use Rattle.links.specs.Opened.{Whole};
 ghost use Rattle.links.specs.Sitting.{Sits};
@@ -13,58 +14,56 @@ use crate::opening::open;
 use crate::parts::Parts;
 use crate::rotating::{rotate_once, rotate_twice};
 use balance::{outweighs, rotates_once};
-use cells::{Cell, Item, Pool, count_at, release};
+use cells::{Item, Store};
 use kinds::Kind;
 
 // One rotation or two, of a tree that is taken apart already.
 pub fn rotate<K: Kind>(
-    kind: &K,
-    cells: &mut [Cell<K::Element, K::Summary>],
-    pool: &mut Pool,
+    store: &mut Store<'_, K>,
     flip: bool,
     parts: Parts<K::Element, K::Summary>,
     item: Item<K::Element, K::Summary>,
     right: u32,
 ) -> u32
-    requires holds { Holds (K.meaning kind.now) cells.old pool.old (parts.near ∷ parts.far ∷ right ∷ []) (2 ^ 28) }
-    requires sits { Sits (K.meaning kind.now) (rotated (node (seen flip cells.old parts.near) parts.item.element (seen flip cells.old parts.far)) item.element (seen flip cells.old right)) }
-    requires whole { Whole (K.meaning kind.now) parts.item × Whole (K.meaning kind.now) item }
-    requires some { 3 ≤ pool.old.free }
-    ensures { Makes (K.meaning kind.now) flip cells.old pool.old (parts.near ∷ parts.far ∷ right ∷ []) cells.new pool.new result
-        (rotated (node (seen flip cells.old parts.near) parts.item.element (seen flip cells.old parts.far)) item.element (seen flip cells.old right)) 3 }
+    requires holds { Holds (K.meaning store.old.kind.now) store.old.cells.now store.old.pool (parts.near ∷ parts.far ∷ right ∷ []) (2 ^ 28) }
+    requires sits { Sits (K.meaning store.old.kind.now) (rotated (node (seen flip store.old.cells.now parts.near) parts.item.element (seen flip store.old.cells.now parts.far)) item.element (seen flip store.old.cells.now right)) }
+    requires whole { Whole (K.meaning store.old.kind.now) parts.item × Whole (K.meaning store.old.kind.now) item }
+    requires some { 3 ≤ store.old.pool.free }
+    ensures same { SameLoan store.old store.new }
+    ensures yields { Makes (K.meaning store.old.kind.now) flip store.old.cells.now store.old.pool (parts.near ∷ parts.far ∷ right ∷ []) store.new.cells.now store.new.pool result
+        (rotated (node (seen flip store.old.cells.now parts.near) parts.item.element (seen flip store.old.cells.now parts.far)) item.element (seen flip store.old.cells.now right)) 3 }
 {
-    let inner = count_at(cells, parts.far) + 1;
-    let outer = count_at(cells, parts.near) + 1;
+    let inner = store.count_at(parts.far) + 1;
+    let outer = store.count_at(parts.near) + 1;
     if rotates_once(inner, outer) {
-        return rotate_once(kind, cells, pool, flip, parts, item, right);
+        return rotate_once(store, flip, parts, item, right);
     }
-    rotate_twice(kind, cells, pool, flip, parts, item, right)
+    rotate_twice(store, flip, parts, item, right)
 }
 
 // The tree of the left root, the item and the tree of the right root in one, balanced, by at most three new cells.
 pub fn rebalance<K: Kind>(
-    kind: &K,
-    cells: &mut [Cell<K::Element, K::Summary>],
-    pool: &mut Pool,
+    store: &mut Store<'_, K>,
     flip: bool,
     left: u32,
     item: Item<K::Element, K::Summary>,
     right: u32,
 ) -> u32
-    requires holds { Holds (K.meaning kind.now) cells.old pool.old (left ∷ right ∷ []) (2 ^ 27) }
-    requires sits { Sits (K.meaning kind.now) (rebalanced (seen flip cells.old left) item.element (seen flip cells.old right)) }
-    requires whole { Whole (K.meaning kind.now) item }
-    requires some { 3 ≤ pool.old.free }
-    ensures { Makes (K.meaning kind.now) flip cells.old pool.old (left ∷ right ∷ []) cells.new pool.new result
-        (rebalanced (seen flip cells.old left) item.element (seen flip cells.old right)) 3 }
+    requires holds { Holds (K.meaning store.old.kind.now) store.old.cells.now store.old.pool (left ∷ right ∷ []) (2 ^ 27) }
+    requires sits { Sits (K.meaning store.old.kind.now) (rebalanced (seen flip store.old.cells.now left) item.element (seen flip store.old.cells.now right)) }
+    requires whole { Whole (K.meaning store.old.kind.now) item }
+    requires some { 3 ≤ store.old.pool.free }
+    ensures same { SameLoan store.old store.new }
+    ensures yields { Makes (K.meaning store.old.kind.now) flip store.old.cells.now store.old.pool (left ∷ right ∷ []) store.new.cells.now store.new.pool result
+        (rebalanced (seen flip store.old.cells.now left) item.element (seen flip store.old.cells.now right)) 3 }
 {
-    let heavy = count_at(cells, left) + 1;
-    let light = count_at(cells, right) + 1;
+    let heavy = store.count_at(left) + 1;
+    let light = store.count_at(right) + 1;
     if !outweighs(heavy, light) {
-        return make_facing(kind, cells, pool, flip, left, item, right);
+        return make_facing(store, flip, left, item, right);
     }
-    let parts = open(kind, cells, flip, left);
-    let top = rotate(kind, cells, pool, flip, parts, item, right);
-    release(kind, cells, pool, left);
+    let parts = open(store, flip, left);
+    let top = rotate(store, flip, parts, item, right);
+    store.release(left);
     top
 }

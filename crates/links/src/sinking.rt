@@ -7,30 +7,29 @@ ghost use Rattle.links.specs.Climbing.{Sunk};
 
 use crate::facing::near_of;
 use balance::outweighs;
-use cells::{Cell, Path, cell_at, count_at};
+use cells::{Path, Store};
 use kinds::Kind;
 
 // From the tree of `right` down while it outweighs that of `left`, to the cell that does not. The path takes what is passed.
 pub fn sink<K: Kind>(
-    kind: &K,
-    cells: &[Cell<K::Element, K::Summary>],
+    store: &Store<'_, K>,
     flip: bool,
     left: u32,
     right: u32,
     path: &mut Path,
 ) -> u32
     requires empty { path.old.items ≡ [] }
-    requires sound { Sound (K.meaning kind.now) cells.now }
-    requires live { Live cells.now left × Live cells.now right }
-    requires few { (cell_count cells.now left ≤ most) × (cell_count cells.now right ≤ most) }
-    requires deep { length (spine (seen flip cells.now left) (seen flip cells.now right)) ≤ deepest }
-    ensures { Sunk (K.meaning kind.now) flip cells.now (seen flip cells.now left) right path.new.items result }
+    requires sound { Sound (K.meaning store.now.kind.now) store.now.cells.now }
+    requires live { Live store.now.cells.now left × Live store.now.cells.now right }
+    requires few { (cell_count store.now.cells.now left ≤ most) × (cell_count store.now.cells.now right ≤ most) }
+    requires deep { length (spine (seen flip store.now.cells.now left) (seen flip store.now.cells.now right)) ≤ deepest }
+    ensures { Sunk (K.meaning store.now.kind.now) flip store.now.cells.now (seen flip store.now.cells.now left) right path.new.items result }
 {
-    let light = count_at(cells, left) + 1;
+    let light = store.count_at(left) + 1;
     let mut x = right;
-    while outweighs(count_at(cells, x) + 1, light) {
+    while outweighs(store.count_at(x) + 1, light) {
         path.push(x);
-        x = near_of(flip, cell_at(cells, x));
+        x = near_of(flip, store.cell_at(x));
     }
     x
 }

@@ -3,17 +3,18 @@ use Rattle.links.proofs.climbing.raise.Goals as goal
 
 pub retain-requires : goal.retain-requires
 retain-requires g c = record {
-  holds = (c.args.pool.now, room c.args.flip c.requires.above c.cell_at-c.ensures);
+  holds = (c.args.store.now.pool, room c.args.flip c.requires.above c.cell_at-c.ensures);
   live = far_alive c.args.flip c.requires.above c.cell_at-c.ensures c.far_of-far.ensures;
 }
 
 pub rebalance-requires : goal.rebalance-requires
 rebalance-requires g c = record {
-  holds = both_hold c.args.flip c.requires.above c.cell_at-c.ensures c.retain.ensures.retains;
-  sits = both_sit c.args.flip c.requires.above c.cell_at-c.ensures c.retain.ensures.retains c.far_of-far.ensures c.from.ensures c.requires.sits;
-  whole = passed_whole c.args.flip c.requires.above c.cell_at-c.ensures c.from.ensures;
-  some = c.requires.some;
+  holds = rw (c.retain.ensures.same.kind, c.retain.ensures.pool) (both_hold c.args.flip c.requires.above c.cell_at-c.ensures c.retain.ensures.retains);
+  sits = rw c.retain.ensures.same.kind (both_sit c.args.flip c.requires.above c.cell_at-c.ensures c.retain.ensures.retains c.far_of-far.ensures c.from.ensures c.requires.sits);
+  whole = rw c.retain.ensures.same.kind (passed_whole c.args.flip c.requires.above c.cell_at-c.ensures c.from.ensures);
+  some = rw c.retain.ensures.pool c.requires.some;
 }
 
-pub returns : goal.returns
-returns g c = raises c.args.flip c.requires.above c.cell_at-c.ensures c.retain.ensures.retains c.far_of-far.ensures c.from.ensures c.rebalance.ensures
+pub returns-clause-yields : goal.returns-clause-yields
+returns-clause-yields g c =
+    raises c.args.flip c.requires.above c.cell_at-c.ensures c.retain.ensures.retains c.far_of-far.ensures c.from.ensures (rw (c.retain.ensures.same.kind, c.retain.ensures.pool) at c.rebalance.ensures.yields)

@@ -1,4 +1,5 @@
 use Rattle.std.proofs.Common.{◌∷◌, arith}
+use Rattle.cells.specs.Lent.{same_loan_trans}
 use Rattle.links.proofs.Hangs.{x_live, y_live, x_few, y_few, deep, room, foot_live, arena_b, fits_b, holds_c, tabled_c, climbs_c, some_c, arena_d, few_d, hangs}
 use Rattle.links.proofs.hanging.hang.Goals as goal
 
@@ -19,33 +20,46 @@ sink-foot-requires g c = record {
 
 pub retain-requires : goal.retain-requires
 retain-requires g c = record {
-  holds = (c.args.pool.now, room c.args.flip c.args.item c.requires.holds c.requires.linkable c.requires.heavy);
+  holds = (c.args.store.now.pool, room c.args.flip c.args.item c.requires.holds c.requires.linkable c.requires.heavy);
   live = foot_live c.args.flip c.args.item c.requires.holds c.requires.linkable c.requires.heavy c.sink-foot.ensures;
 }
 
 pub make_facing-low-requires : goal.make_facing-low-requires
 make_facing-low-requires g c = record {
-  owned = (c.args.right ∷ c.requires.holds.rest, arena_b c.args.flip c.args.item c.requires.holds c.requires.linkable c.requires.heavy c.sink-foot.ensures c.retain.ensures.retains);
-  fits = fits_b c.args.flip c.args.item c.requires.holds c.requires.linkable c.requires.heavy c.sink-foot.ensures c.retain.ensures.retains c.requires.whole;
-  some = omega (arith, c.requires.some);
+  owned = rw (c.retain.ensures.same.kind, c.retain.ensures.pool) (c.args.right ∷ c.requires.holds.rest, arena_b c.args.flip c.args.item c.requires.holds c.requires.linkable c.requires.heavy c.sink-foot.ensures c.retain.ensures.retains);
+  fits = rw c.retain.ensures.same.kind (fits_b c.args.flip c.args.item c.requires.holds c.requires.linkable c.requires.heavy c.sink-foot.ensures c.retain.ensures.retains c.requires.whole);
+  some = rw c.retain.ensures.pool (omega (arith, c.requires.some));
 }
 
 pub climb-r-requires : goal.climb-r-requires
-climb-r-requires g c = record {
-  holds = holds_c c.args.flip c.args.item c.requires.holds c.requires.linkable c.requires.heavy c.sink-foot.ensures c.retain.ensures.retains c.make_facing-low.ensures.yields;
-  tabled = tabled_c c.args.flip c.args.item c.requires.holds c.requires.linkable c.requires.heavy c.sink-foot.ensures c.retain.ensures.retains c.make_facing-low.ensures.yields;
-  climbs = climbs_c c.args.flip c.args.item c.requires.holds c.requires.linkable c.requires.heavy c.sink-foot.ensures c.retain.ensures.retains c.make_facing-low.ensures.yields;
-  some = some_c c.args.flip c.args.item c.requires.holds c.requires.linkable c.requires.heavy c.sink-foot.ensures c.retain.ensures.retains c.make_facing-low.ensures.yields c.requires.some;
-}
+climb-r-requires g c =
+    let made = rw (c.retain.ensures.same.kind, c.retain.ensures.pool) at c.make_facing-low.ensures.yields in
+    let same = same_loan_trans c.retain.ensures.same c.make_facing-low.ensures.same in
+    record {
+      holds = rw same.kind (holds_c c.args.flip c.args.item c.requires.holds c.requires.linkable c.requires.heavy c.sink-foot.ensures c.retain.ensures.retains made);
+      tabled = tabled_c c.args.flip c.args.item c.requires.holds c.requires.linkable c.requires.heavy c.sink-foot.ensures c.retain.ensures.retains made;
+      climbs = rw same.kind (climbs_c c.args.flip c.args.item c.requires.holds c.requires.linkable c.requires.heavy c.sink-foot.ensures c.retain.ensures.retains made);
+      some = some_c c.args.flip c.args.item c.requires.holds c.requires.linkable c.requires.heavy c.sink-foot.ensures c.retain.ensures.retains made c.requires.some;
+    }
 
 pub release-requires : goal.release-requires
-release-requires g c = record {
-  owned = (
-    c.climb-r.result ∷ c.requires.holds.rest,
-    arena_d c.args.flip c.args.item c.requires.holds c.requires.linkable c.requires.heavy c.sink-foot.ensures c.retain.ensures.retains c.make_facing-low.ensures.yields c.climb-r.ensures,
-  );
-  few = few_d c.args.flip c.args.item c.requires.holds c.requires.linkable c.requires.heavy c.sink-foot.ensures c.retain.ensures.retains c.make_facing-low.ensures.yields c.climb-r.ensures;
-}
+release-requires g c =
+    let made = rw (c.retain.ensures.same.kind, c.retain.ensures.pool) at c.make_facing-low.ensures.yields in
+    let made_same = same_loan_trans c.retain.ensures.same c.make_facing-low.ensures.same in
+    let climbed = rw made_same.kind at c.climb-r.ensures.raises in
+    let same = same_loan_trans made_same c.climb-r.ensures.same in
+    record {
+      owned = rw same.kind (
+        c.climb-r.result ∷ c.requires.holds.rest,
+        arena_d c.args.flip c.args.item c.requires.holds c.requires.linkable c.requires.heavy c.sink-foot.ensures c.retain.ensures.retains made climbed,
+      );
+      few = few_d c.args.flip c.args.item c.requires.holds c.requires.linkable c.requires.heavy c.sink-foot.ensures c.retain.ensures.retains made climbed;
+    }
 
-pub returns : goal.returns
-returns g c = hangs c.args.flip c.args.item c.requires.holds c.requires.linkable c.requires.heavy c.sink-foot.ensures c.retain.ensures.retains c.make_facing-low.ensures.yields c.climb-r.ensures c.release.ensures
+pub returns-clause-yields : goal.returns-clause-yields
+returns-clause-yields g c =
+    let made = rw (c.retain.ensures.same.kind, c.retain.ensures.pool) at c.make_facing-low.ensures.yields in
+    let made_same = same_loan_trans c.retain.ensures.same c.make_facing-low.ensures.same in
+    let climbed = rw made_same.kind at c.climb-r.ensures.raises in
+    let same = same_loan_trans made_same c.climb-r.ensures.same in
+    hangs c.args.flip c.args.item c.requires.holds c.requires.linkable c.requires.heavy c.sink-foot.ensures c.retain.ensures.retains made climbed (rw same.kind at c.release.ensures.releases)

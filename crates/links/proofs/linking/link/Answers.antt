@@ -35,15 +35,15 @@ make-requires g c = record {
 
 pub returns-then-outweighs : goal.returns-then-outweighs
 returns-then-outweighs g c =
-    let done = linked_right c.args.item c.requires.holds c.requires.linkable c.count_at-before.ensures c.count_at-behind.ensures c.outweighs.ensures c.if-outweighs.true c.hang.ensures in
-    record { yields = done.yields; order = done.order }
+    let done = linked_right c.args.item c.requires.holds c.requires.linkable c.count_at-before.ensures c.count_at-behind.ensures c.outweighs.ensures c.if-outweighs.true c.hang.ensures.yields in
+    record { same = c.hang.ensures.same; yields = done.yields; order = done.order }
 
 pub returns-then-outweighs-2 : goal.returns-then-outweighs-2
 returns-then-outweighs-2 g c =
-    let done = linked_left c.args.item c.requires.holds c.requires.linkable c.count_at-before.ensures c.count_at-behind.ensures c.outweighs.ensures c.outweighs-2.ensures c.if-outweighs-2.true c.hang-then-outweighs-2.ensures in
-    record { yields = done.yields; order = done.order }
+    let done = linked_left c.args.item c.requires.holds c.requires.linkable c.count_at-before.ensures c.count_at-behind.ensures c.outweighs.ensures c.outweighs-2.ensures c.if-outweighs-2.true c.hang-then-outweighs-2.ensures.yields in
+    record { same = c.hang-then-outweighs-2.ensures.same; yields = done.yields; order = done.order }
 
 pub returns : goal.returns
 returns g c =
     let done = linked_even c.args.item c.requires.holds c.requires.linkable c.count_at-before.ensures c.count_at-behind.ensures c.outweighs.ensures c.outweighs-2.ensures c.if-outweighs.false c.if-outweighs-2.false c.make.ensures.yields in
-    record { yields = done.yields; order = done.order }
+    record { same = c.make.ensures.same; yields = done.yields; order = done.order }

@@ -9,9 +9,10 @@ retain-requires g c = record {
 
 pub retain-requires-2 : goal.retain-requires-2
 retain-requires-2 g c = record {
-  holds = (c.requires.holds.0, room_left c.args.flip c.requires.holds.1 c.cell_at-c.ensures c.retain.ensures.retains);
+  holds = rw c.retain.ensures.same.kind (c.requires.holds.0, room_left c.args.flip c.requires.holds.1 c.cell_at-c.ensures c.retain.ensures.retains);
   live = far_alive c.args.flip c.requires.holds.1 c.cell_at-c.ensures c.retain.ensures.retains c.far_of-far.ensures;
 }
 
-pub returns : goal.returns
-returns g c = opens c.args.flip c.requires.holds.1 c.cell_at-c.ensures c.retain.ensures.retains c.near_of-near.ensures c.far_of-far.ensures c.retain-2.ensures.retains c.from.ensures
+pub returns-clause-opens : goal.returns-clause-opens
+returns-clause-opens g c =
+    opens c.args.flip c.requires.holds.1 c.cell_at-c.ensures c.retain.ensures.retains c.near_of-near.ensures c.far_of-far.ensures (rw c.retain.ensures.same.kind at c.retain-2.ensures.retains) c.from.ensures

@@ -1,4 +1,5 @@
 use Rattle.std.proofs.Common.{◌∷◌, arith}
+use Rattle.cells.specs.Lent.{same_loan_trans}
 use Rattle.links.proofs.Turns.{left_fits, right_fits, even_fits, yields_even, heavy_holds, heavy_inside, parts_hold, turned_sits, turn_arena, turn_few, yields_heavy}
 use Rattle.links.proofs.rebalancing.rebalance.Goals as goal
 
@@ -15,29 +16,38 @@ make_facing-requires g c = record {
   some = omega (arith, c.requires.some);
 }
 
-pub returns-then-not-outweighs : goal.returns-then-not-outweighs
-returns-then-not-outweighs g c =
+pub returns-then-not-outweighs-clause-yields : goal.returns-then-not-outweighs-clause-yields
+returns-then-not-outweighs-clause-yields g c =
     yields_even c.args.flip c.args.item c.requires.holds c.requires.sits c.count_at-heavy.ensures c.count_at-light.ensures c.outweighs.ensures c.if-not-outweighs.true c.make_facing.ensures.yields
 
 pub open-parts-requires : goal.open-parts-requires
 open-parts-requires g c = record {
-  holds = (c.args.pool.now, heavy_holds c.args.flip c.args.item c.requires.holds c.requires.sits);
+  holds = (c.args.store.now.pool, heavy_holds c.args.flip c.args.item c.requires.holds c.requires.sits);
   inside = heavy_inside c.args.flip c.args.item c.requires.holds c.requires.sits c.count_at-heavy.ensures c.count_at-light.ensures c.outweighs.ensures c.if-not-outweighs.false;
 }
 
 pub rotate-top-requires : goal.rotate-top-requires
 rotate-top-requires g c = record {
-  holds = parts_hold c.args.flip c.args.item c.requires.holds c.requires.sits c.count_at-heavy.ensures c.count_at-light.ensures c.outweighs.ensures c.if-not-outweighs.false c.open-parts.ensures;
-  sits = turned_sits c.args.flip c.args.item c.requires.holds c.requires.sits c.count_at-heavy.ensures c.count_at-light.ensures c.outweighs.ensures c.if-not-outweighs.false c.open-parts.ensures;
-  whole = (c.open-parts.ensures.whole, c.requires.whole);
-  some = c.requires.some;
+  holds = rw (c.open-parts.ensures.same.kind, c.open-parts.ensures.pool) (parts_hold c.args.flip c.args.item c.requires.holds c.requires.sits c.count_at-heavy.ensures c.count_at-light.ensures c.outweighs.ensures c.if-not-outweighs.false c.open-parts.ensures.opens);
+  sits = rw c.open-parts.ensures.same.kind (turned_sits c.args.flip c.args.item c.requires.holds c.requires.sits c.count_at-heavy.ensures c.count_at-light.ensures c.outweighs.ensures c.if-not-outweighs.false c.open-parts.ensures.opens);
+  whole = rw c.open-parts.ensures.same.kind (c.open-parts.ensures.opens.whole, c.requires.whole);
+  some = rw c.open-parts.ensures.pool c.requires.some;
 }
 
 pub release-requires : goal.release-requires
-release-requires g c = record {
-  owned = (c.rotate-top.result ∷ c.requires.holds.rest, turn_arena c.args.flip c.args.item c.requires.holds c.requires.sits c.count_at-heavy.ensures c.count_at-light.ensures c.outweighs.ensures c.if-not-outweighs.false c.open-parts.ensures c.rotate-top.ensures);
-  few = turn_few c.args.flip c.args.item c.requires.holds c.requires.sits c.count_at-heavy.ensures c.count_at-light.ensures c.outweighs.ensures c.if-not-outweighs.false c.open-parts.ensures c.rotate-top.ensures;
-}
+release-requires g c =
+    let turned = rw (c.open-parts.ensures.same.kind, c.open-parts.ensures.pool) at c.rotate-top.ensures.yields in
+    let same = same_loan_trans c.open-parts.ensures.same c.rotate-top.ensures.same in
+    record {
+      owned = rw same.kind (
+        c.rotate-top.result ∷ c.requires.holds.rest,
+        turn_arena c.args.flip c.args.item c.requires.holds c.requires.sits c.count_at-heavy.ensures c.count_at-light.ensures c.outweighs.ensures c.if-not-outweighs.false c.open-parts.ensures.opens turned,
+      );
+      few = turn_few c.args.flip c.args.item c.requires.holds c.requires.sits c.count_at-heavy.ensures c.count_at-light.ensures c.outweighs.ensures c.if-not-outweighs.false c.open-parts.ensures.opens turned;
+    }
 
-pub returns : goal.returns
-returns g c = yields_heavy c.args.flip c.args.item c.requires.holds c.requires.sits c.count_at-heavy.ensures c.count_at-light.ensures c.outweighs.ensures c.if-not-outweighs.false c.open-parts.ensures c.rotate-top.ensures c.release.ensures
+pub returns-clause-yields : goal.returns-clause-yields
+returns-clause-yields g c =
+    let turned = rw (c.open-parts.ensures.same.kind, c.open-parts.ensures.pool) at c.rotate-top.ensures.yields in
+    let same = same_loan_trans c.open-parts.ensures.same c.rotate-top.ensures.same in
+    yields_heavy c.args.flip c.args.item c.requires.holds c.requires.sits c.count_at-heavy.ensures c.count_at-light.ensures c.outweighs.ensures c.if-not-outweighs.false c.open-parts.ensures.opens turned (rw same.kind at c.release.ensures.releases)

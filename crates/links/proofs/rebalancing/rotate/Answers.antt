@@ -16,9 +16,9 @@ rotate_once-requires g c = record {
   some = omega (arith, c.requires.some);
 }
 
-pub returns-then-rotates_once : goal.returns-then-rotates_once
-returns-then-rotates_once g c =
-    yields_once c.args.flip c.args.parts.item c.args.item c.requires.holds c.requires.sits c.count_at-inner.ensures c.count_at-outer.ensures c.rotates_once.ensures c.if-rotates_once.true c.rotate_once.ensures
+pub returns-then-rotates_once-clause-yields : goal.returns-then-rotates_once-clause-yields
+returns-then-rotates_once-clause-yields g c =
+    yields_once c.args.flip c.args.parts.item c.args.item c.requires.holds c.requires.sits c.count_at-inner.ensures c.count_at-outer.ensures c.rotates_once.ensures c.if-rotates_once.true c.rotate_once.ensures.yields
 
 pub rotate_twice-requires : goal.rotate_twice-requires
 rotate_twice-requires g c = record {
@@ -29,6 +29,6 @@ rotate_twice-requires g c = record {
   some = c.requires.some;
 }
 
-pub returns : goal.returns
-returns g c =
-    yields_twice c.args.flip c.args.parts.item c.args.item c.requires.holds c.requires.sits c.count_at-inner.ensures c.count_at-outer.ensures c.rotates_once.ensures c.if-rotates_once.false c.rotate_twice.ensures
+pub returns-clause-yields : goal.returns-clause-yields
+returns-clause-yields g c =
+    yields_twice c.args.flip c.args.parts.item c.args.item c.requires.holds c.requires.sits c.count_at-inner.ensures c.count_at-outer.ensures c.rotates_once.ensures c.if-rotates_once.false c.rotate_twice.ensures.yields

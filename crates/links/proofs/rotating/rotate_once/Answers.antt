@@ -11,10 +11,11 @@ make_facing-low-requires g c = record {
 
 pub make_facing-requires : goal.make_facing-requires
 make_facing-requires g c = record {
-  owned = (c.requires.owned.0, low_arena c.args.flip c.args.parts.item c.args.item c.requires.owned.1 c.make_facing-low.ensures.yields);
-  fits = top_fits c.args.flip c.args.parts.item c.args.item c.requires.owned.1 c.make_facing-low.ensures.yields c.requires.sits c.requires.whole.0;
+  owned = rw c.make_facing-low.ensures.same.kind (c.requires.owned.0, low_arena c.args.flip c.args.parts.item c.args.item c.requires.owned.1 c.make_facing-low.ensures.yields);
+  fits = rw c.make_facing-low.ensures.same.kind (top_fits c.args.flip c.args.parts.item c.args.item c.requires.owned.1 c.make_facing-low.ensures.yields c.requires.sits c.requires.whole.0);
   some = omega (arith, c.requires.some, c.make_facing-low.ensures.taken);
 }
 
-pub returns : goal.returns
-returns g c = rotated_once c.args.flip c.args.parts.item c.args.item c.requires.owned.1 c.make_facing-low.ensures.yields c.make_facing.ensures.yields
+pub returns-clause-yields : goal.returns-clause-yields
+returns-clause-yields g c =
+    rotated_once c.args.flip c.args.parts.item c.args.item c.requires.owned.1 c.make_facing-low.ensures.yields (rw c.make_facing-low.ensures.same.kind at c.make_facing.ensures.yields)

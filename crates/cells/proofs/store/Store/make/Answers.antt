@@ -1,0 +1,20 @@
+use Rattle.std.proofs.Common.{refl, arith}
+use Rattle.cells.proofs.News.{first_inside, counts_fit, made_by}
+use Rattle.cells.proofs.store.Store.make.Goals as goal
+
+pub overflow_add-count : goal.overflow_add-count
+overflow_add-count g c = let fit = counts_fit (g.K.Kind.laws c.args.self.now.kind.now) c.requires.owned.1 c.requires.fits c.count_at.ensures refl in omega arith
+
+pub overflow_add-count-2 : goal.overflow_add-count-2
+overflow_add-count-2 g c = let fit = counts_fit (g.K.Kind.laws c.args.self.now.kind.now) c.requires.owned.1 c.requires.fits c.count_at.ensures c.count_at-2.ensures in omega arith
+
+pub cell_at-next-requires : goal.cell_at-next-requires
+cell_at-next-requires g c = first_inside c.requires.owned.1 c.requires.some
+
+pub put-requires : goal.put-requires
+put-requires g c = first_inside c.requires.owned.1 c.requires.some
+
+pub returns-clause-yields : goal.returns-clause-yields
+returns-clause-yields g c rs arena =
+    rw c.put.ensures.pool (made_by (g.K.Kind.laws c.args.self.now.kind.now) arena c.requires.fits c.requires.some
+    c.count_at.ensures c.count_at-2.ensures c.summary_at.ensures c.join-behind.ensures c.summary_at-2.ensures c.join-summary.ensures c.cell_at-next.ensures c.put.ensures.cells)
