@@ -8,38 +8,33 @@ ghost use Rattle.balance.specs.Edits.{up_to, on_from};
 ghost use Rattle.balance.specs.Levels.{most};
 ghost use Rattle.balance.specs.Costs.{up_to_cost};
 ghost use Rattle.cells.specs.Cells.{shape, tree};
+ghost use Rattle.cells.specs.Lent.{SameLoan};
 ghost use Rattle.cells.specs.Cells.{Whole};
 ghost use Rattle.splits.specs.Owning.{Owns};
 ghost use Rattle.splits.specs.Splitting.{Tied, Grows};
 
 use crate::split::Loose;
-use cells::{Cell, Item, NONE, Pool};
+use cells::{Item, NONE, Store};
 use kinds::Kind;
 use links::link;
 
 // The tree of `left`, and behind it what the element has before its atom `d`.
-pub fn up_to<K: Kind>(
-    kind: &K,
-    cells: &mut [Cell<K::Element, K::Summary>],
-    pool: &mut Pool,
-    left: u32,
-    element: K::Element,
-    d: u32,
-) -> u32
-    requires owns { Owns (K.meaning kind.now) cells.old pool.old (left ∷ []) [] (2 ^ 22) }
-    requires lawful { Lawful (K.meaning kind.now) element }
-    requires inside { d < length ((K.meaning kind.now).atoms element) }
-    requires few { count (up_to (shape (K.meaning kind.now)) (tree cells.old left) element d) ≤ most }
-    requires short { span (shape (K.meaning kind.now)) (up_to (shape (K.meaning kind.now)) (tree cells.old left) element d) ≤ limit }
-    requires some { up_to_cost (tree cells.old left) d ≤ pool.old.free }
-    ensures { Grows (K.meaning kind.now) false cells.old pool.old (left ∷ []) cells.new pool.new result
-        (up_to (shape (K.meaning kind.now)) (tree cells.old left) element d) (up_to_cost (tree cells.old left) d) }
+pub fn up_to<K: Kind>(store: &mut Store<'_, K>, left: u32, element: K::Element, d: u32) -> u32
+    requires owns { Owns (K.meaning store.old.kind.now) store.old.cells.now store.old.pool (left ∷ []) [] (2 ^ 22) }
+    requires lawful { Lawful (K.meaning store.old.kind.now) element }
+    requires inside { d < length ((K.meaning store.old.kind.now).atoms element) }
+    requires few { count (up_to (shape (K.meaning store.old.kind.now)) (tree store.old.cells.now left) element d) ≤ most }
+    requires short { span (shape (K.meaning store.old.kind.now)) (up_to (shape (K.meaning store.old.kind.now)) (tree store.old.cells.now left) element d) ≤ limit }
+    requires some { up_to_cost (tree store.old.cells.now left) d ≤ store.old.pool.free }
+    ensures same { SameLoan store.old store.new }
+    ensures grows { Grows (K.meaning store.old.kind.now) false store.old.cells.now store.old.pool (left ∷ []) store.new.cells.now store.new.pool result
+        (up_to (shape (K.meaning store.old.kind.now)) (tree store.old.cells.now left) element d) (up_to_cost (tree store.old.cells.now left) d) }
 {
     if d == 0 {
         return left;
     }
-    let first = Item::of(kind, kind.part(element, 0, d));
-    link(kind, cells, pool, left, first, NONE)
+    let first = Item::of(store.kind, store.kind.part(element, 0, d));
+    link(store, left, first, NONE)
 }
 
 // What a loose element has from its atom `d` on, before the same tree. Its summary is not asked for.

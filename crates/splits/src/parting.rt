@@ -10,36 +10,36 @@ ghost use Rattle.balance.specs.Edits.{more, listed, tail, parted, parted_rest};
 ghost use Rattle.balance.specs.Levels.{most};
 ghost use Rattle.balance.specs.Costs.{parted_cost, parted_rest_cost};
 ghost use Rattle.cells.specs.Cells.{shape, tree};
+ghost use Rattle.cells.specs.Lent.{SameLoan};
 ghost use Rattle.splits.specs.Owning.{Owns};
 ghost use Rattle.splits.specs.Splitting.{behind, loose_roots, AllTied, Splits, Leaves, Divided, Partable};
 
 use crate::loosening::{from_on, item_of, up_to};
 use crate::siding::{before_of, behind_of};
 use crate::split::{Loose, Split};
-use cells::{Cell, NONE, Path, Pool, cell_at, release, retain};
+use cells::{NONE, Path, Store};
 use kinds::Kind;
 use links::link;
 use walks::{Found, View};
 
 // The tree of a lent root, taken apart at a place; at its end or beyond, all of it lies before.
 pub fn part<K: Kind>(
-    kind: &K,
-    cells: &mut [Cell<K::Element, K::Summary>],
-    pool: &mut Pool,
+    store: &mut Store<'_, K>,
     root: u32,
     place: u32,
 ) -> Split<K::Element, K::Summary>
-    requires owns { Owns (K.meaning kind.now) cells.old pool.old [] (root ∷ []) (2 ^ 20) }
-    requires few { count (tree cells.old root) ≤ most }
-    requires some { parted_cost (shape (K.meaning kind.now)) (tree cells.old root) place ≤ pool.old.free }
-    ensures splits { Splits (K.meaning kind.now) cells.old pool.old [] cells.new pool.new result
-        (parted (shape (K.meaning kind.now)) (tree cells.old root) place)
-        (parted_cost (shape (K.meaning kind.now)) (tree cells.old root) place) }
-    ensures lists { Divided (K.meaning kind.now) cells.new result (elements (tree cells.old root)) place }
+    requires owns { Owns (K.meaning store.old.kind.now) store.old.cells.now store.old.pool [] (root ∷ []) (2 ^ 20) }
+    requires few { count (tree store.old.cells.now root) ≤ most }
+    requires some { parted_cost (shape (K.meaning store.old.kind.now)) (tree store.old.cells.now root) place ≤ store.old.pool.free }
+    ensures same { SameLoan store.old store.new }
+    ensures splits { Splits (K.meaning store.old.kind.now) store.old.cells.now store.old.pool [] store.new.cells.now store.new.pool result
+        (parted (shape (K.meaning store.old.kind.now)) (tree store.old.cells.now root) place)
+        (parted_cost (shape (K.meaning store.old.kind.now)) (tree store.old.cells.now root) place) }
+    ensures lists { Divided (K.meaning store.old.kind.now) store.new.cells.now result (elements (tree store.old.cells.now root)) place }
 {
-    let view = View::new(kind, cells, root);
+    let view = View::of(store, root);
     if place >= view.width() {
-        retain(kind, cells, root);
+        store.retain(root);
         return Split {
             before: root,
             loose: None,
@@ -47,10 +47,10 @@ pub fn part<K: Kind>(
     }
     let (mut lefts, mut rights) = (Path::new(), Path::new());
     let Found { cell, offset } = view.descend(place, &mut lefts, &mut rights);
-    let c = cell_at(cells, cell);
-    let loose = behind_of(kind, cells, pool, c, offset, lefts.as_slice());
+    let c = store.cell_at(cell);
+    let loose = behind_of(store, c, offset, lefts.as_slice());
     Split {
-        before: before_of(kind, cells, pool, c, offset, rights.as_slice()),
+        before: before_of(store, c, offset, rights.as_slice()),
         loose: Some(loose),
     }
 }
@@ -58,77 +58,74 @@ pub fn part<K: Kind>(
 // What lies behind a place of the tree of a lent root, if anything does. What lies before the place is not made, so no
 // summary is asked for.
 pub fn part_behind<K: Kind>(
-    kind: &K,
-    cells: &mut [Cell<K::Element, K::Summary>],
-    pool: &mut Pool,
+    store: &mut Store<'_, K>,
     root: u32,
     place: u32,
 ) -> Option<Loose<K::Element, K::Summary>>
-    requires owns { Owns (K.meaning kind.now) cells.old pool.old [] (root ∷ []) (2 ^ 20) }
-    requires few { count (tree cells.old root) ≤ most }
-    requires some { parted_cost (shape (K.meaning kind.now)) (tree cells.old root) place ≤ pool.old.free }
-    ensures leaves { Leaves (K.meaning kind.now) cells.old pool.old cells.new pool.new result
-        (parted (shape (K.meaning kind.now)) (tree cells.old root) place).rest
-        (parted_cost (shape (K.meaning kind.now)) (tree cells.old root) place) }
-    ensures lists { listed (behind cells.new result) ≡ after (K.meaning kind.now) place (elements (tree cells.old root)) }
+    requires owns { Owns (K.meaning store.old.kind.now) store.old.cells.now store.old.pool [] (root ∷ []) (2 ^ 20) }
+    requires few { count (tree store.old.cells.now root) ≤ most }
+    requires some { parted_cost (shape (K.meaning store.old.kind.now)) (tree store.old.cells.now root) place ≤ store.old.pool.free }
+    ensures same { SameLoan store.old store.new }
+    ensures leaves { Leaves (K.meaning store.old.kind.now) store.old.cells.now store.old.pool store.new.cells.now store.new.pool result
+        (parted (shape (K.meaning store.old.kind.now)) (tree store.old.cells.now root) place).rest
+        (parted_cost (shape (K.meaning store.old.kind.now)) (tree store.old.cells.now root) place) }
+    ensures lists { listed (behind store.new.cells.now result) ≡ after (K.meaning store.old.kind.now) place (elements (tree store.old.cells.now root)) }
 {
-    let view = View::new(kind, cells, root);
+    let view = View::of(store, root);
     if place >= view.width() {
         return None;
     }
     let (mut lefts, mut rights) = (Path::new(), Path::new());
     let Found { cell, offset } = view.descend(place, &mut lefts, &mut rights);
-    let c = cell_at(cells, cell);
-    Some(behind_of(kind, cells, pool, c, offset, lefts.as_slice()))
+    let c = store.cell_at(cell);
+    Some(behind_of(store, c, offset, lefts.as_slice()))
 }
 
 // A loose element and the tree behind it, taken apart at a place. Both are given away.
 pub fn part_loose<K: Kind>(
-    kind: &K,
-    cells: &mut [Cell<K::Element, K::Summary>],
-    pool: &mut Pool,
+    store: &mut Store<'_, K>,
     loose: Loose<K::Element, K::Summary>,
     place: u32,
 ) -> Split<K::Element, K::Summary>
-    requires { Partable (K.meaning kind.now) cells.old pool.old loose place }
-    ensures { Splits (K.meaning kind.now) cells.old pool.old (loose.root ∷ []) cells.new pool.new result
-        (parted_rest (shape (K.meaning kind.now)) (more loose.element (tree cells.old loose.root)) place)
-        (parted_rest_cost (shape (K.meaning kind.now)) (more loose.element (tree cells.old loose.root)) place) }
+    requires { Partable (K.meaning store.old.kind.now) store.old.cells.now store.old.pool loose place }
+    ensures same { SameLoan store.old store.new }
+    ensures splits { Splits (K.meaning store.old.kind.now) store.old.cells.now store.old.pool (loose.root ∷ []) store.new.cells.now store.new.pool result
+        (parted_rest (shape (K.meaning store.old.kind.now)) (more loose.element (tree store.old.cells.now loose.root)) place)
+        (parted_rest_cost (shape (K.meaning store.old.kind.now)) (more loose.element (tree store.old.cells.now loose.root)) place) }
 {
-    let own = kind.extent(loose.element);
+    let own = store.kind.extent(loose.element);
     if place < own {
-        let before = up_to(kind, cells, pool, NONE, loose.element, place);
+        let before = up_to(store, NONE, loose.element, place);
         return Split {
             before,
-            loose: Some(from_on(kind, loose, place)),
+            loose: Some(from_on(store.kind, loose, place)),
         };
     }
-    let deeper = part(kind, cells, pool, loose.root, place - own);
-    release(kind, cells, pool, loose.root);
-    let before = link(kind, cells, pool, NONE, item_of(kind, loose), deeper.before);
+    let deeper = part(store, loose.root, place - own);
+    store.release(loose.root);
+    let before = link(store, NONE, item_of(store.kind, loose), deeper.before);
     Split { before, ..deeper }
 }
 
 // What lies behind a place, taken apart once more.
 pub fn part_rest<K: Kind>(
-    kind: &K,
-    cells: &mut [Cell<K::Element, K::Summary>],
-    pool: &mut Pool,
+    store: &mut Store<'_, K>,
     rest: Option<Loose<K::Element, K::Summary>>,
     place: u32,
 ) -> Split<K::Element, K::Summary>
-    requires owns { Owns (K.meaning kind.now) cells.old pool.old (loose_roots rest) [] (2 ^ 19) }
-    requires tied { AllTied (K.meaning kind.now) rest }
-    requires few { count (tail (behind cells.old rest)) < most }
-    requires short { extents (shape (K.meaning kind.now)) (listed (behind cells.old rest)) ≤ limit }
-    requires some { parted_rest_cost (shape (K.meaning kind.now)) (behind cells.old rest) place ≤ pool.old.free }
-    ensures splits { Splits (K.meaning kind.now) cells.old pool.old (loose_roots rest) cells.new pool.new result
-        (parted_rest (shape (K.meaning kind.now)) (behind cells.old rest) place)
-        (parted_rest_cost (shape (K.meaning kind.now)) (behind cells.old rest) place) }
-    ensures lists { Divided (K.meaning kind.now) cells.new result (listed (behind cells.old rest)) place }
+    requires owns { Owns (K.meaning store.old.kind.now) store.old.cells.now store.old.pool (loose_roots rest) [] (2 ^ 19) }
+    requires tied { AllTied (K.meaning store.old.kind.now) rest }
+    requires few { count (tail (behind store.old.cells.now rest)) < most }
+    requires short { extents (shape (K.meaning store.old.kind.now)) (listed (behind store.old.cells.now rest)) ≤ limit }
+    requires some { parted_rest_cost (shape (K.meaning store.old.kind.now)) (behind store.old.cells.now rest) place ≤ store.old.pool.free }
+    ensures same { SameLoan store.old store.new }
+    ensures splits { Splits (K.meaning store.old.kind.now) store.old.cells.now store.old.pool (loose_roots rest) store.new.cells.now store.new.pool result
+        (parted_rest (shape (K.meaning store.old.kind.now)) (behind store.old.cells.now rest) place)
+        (parted_rest_cost (shape (K.meaning store.old.kind.now)) (behind store.old.cells.now rest) place) }
+    ensures lists { Divided (K.meaning store.old.kind.now) store.new.cells.now result (listed (behind store.old.cells.now rest)) place }
 {
     match rest {
-        Some(loose) => part_loose(kind, cells, pool, loose, place),
+        Some(loose) => part_loose(store, loose, place),
         None => Split {
             before: NONE,
             loose: None,

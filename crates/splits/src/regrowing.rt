@@ -4,74 +4,62 @@ ghost use Rattle.std.specs.Prelude.{◌≡◌, ◌^◌, ◌≤◌, [], ◌∷◌
 ghost use Rattle.balance.specs.Links.{link};
 ghost use Rattle.balance.specs.Costs.{link_cost};
 ghost use Rattle.cells.specs.Cells.{seen};
+ghost use Rattle.cells.specs.Lent.{SameLoan};
 ghost use Rattle.cells.specs.References.{Holds};
 ghost use Rattle.cells.specs.Cells.{Whole};
 ghost use Rattle.links.specs.Sitting.{Linkable};
 ghost use Rattle.splits.specs.Splitting.{Grows};
 ghost use Rattle.splits.specs.Regrowing.{Joinable, Growable, Grown, Regrown};
 
-use cells::{Cell, Item, Pool, cell_at, retain};
+use cells::{Item, Store};
 use kinds::Kind;
 use links::{far_of, link};
 
 // A link, seen with the tree of `left` on the left.
 pub fn link_facing<K: Kind>(
-    kind: &K,
-    cells: &mut [Cell<K::Element, K::Summary>],
-    pool: &mut Pool,
+    store: &mut Store<'_, K>,
     flip: bool,
     left: u32,
     item: Item<K::Element, K::Summary>,
     right: u32,
 ) -> u32
-    requires holds { Holds (K.meaning kind.now) cells.old pool.old (left ∷ right ∷ []) (2 ^ 24) }
-    requires linkable { Linkable (K.meaning kind.now) (seen flip cells.old left) item.element (seen flip cells.old right) }
-    requires whole { Whole (K.meaning kind.now) item }
-    requires some { link_cost (seen flip cells.old left) (seen flip cells.old right) ≤ pool.old.free }
-    ensures { Grows (K.meaning kind.now) flip cells.old pool.old (left ∷ right ∷ []) cells.new pool.new result
-        (link (seen flip cells.old left) item.element (seen flip cells.old right))
-        (link_cost (seen flip cells.old left) (seen flip cells.old right)) }
+    requires holds { Holds (K.meaning store.old.kind.now) store.old.cells.now store.old.pool (left ∷ right ∷ []) (2 ^ 24) }
+    requires linkable { Linkable (K.meaning store.old.kind.now) (seen flip store.old.cells.now left) item.element (seen flip store.old.cells.now right) }
+    requires whole { Whole (K.meaning store.old.kind.now) item }
+    requires some { link_cost (seen flip store.old.cells.now left) (seen flip store.old.cells.now right) ≤ store.old.pool.free }
+    ensures same { SameLoan store.old store.new }
+    ensures grows { Grows (K.meaning store.old.kind.now) flip store.old.cells.now store.old.pool (left ∷ right ∷ []) store.new.cells.now store.new.pool result
+        (link (seen flip store.old.cells.now left) item.element (seen flip store.old.cells.now right))
+        (link_cost (seen flip store.old.cells.now left) (seen flip store.old.cells.now right)) }
 {
     if flip {
-        return link(kind, cells, pool, right, item, left);
+        return link(store, right, item, left);
     }
-    link(kind, cells, pool, left, item, right)
+    link(store, left, item, right)
 }
 
 // The tree of `low`, linked with the element of the cell `i` and the tree of its far child.
-pub fn regrow_one<K: Kind>(
-    kind: &K,
-    cells: &mut [Cell<K::Element, K::Summary>],
-    pool: &mut Pool,
-    flip: bool,
-    low: u32,
-    i: u32,
-) -> u32
-    requires { Joinable (K.meaning kind.now) flip cells.old pool.old low i }
-    ensures { Grown (K.meaning kind.now) flip cells.old pool.old low i cells.new pool.new result }
+pub fn regrow_one<K: Kind>(store: &mut Store<'_, K>, flip: bool, low: u32, i: u32) -> u32
+    requires { Joinable (K.meaning store.old.kind.now) flip store.old.cells.now store.old.pool low i }
+    ensures same { SameLoan store.old store.new }
+    ensures grown { Grown (K.meaning store.old.kind.now) flip store.old.cells.now store.old.pool low i store.new.cells.now store.new.pool result }
 {
-    let c = cell_at(cells, i);
+    let c = store.cell_at(i);
     let far = far_of(flip, c);
-    retain(kind, cells, far);
-    link_facing(kind, cells, pool, flip, low, Item::from(c), far)
+    store.retain(far);
+    link_facing(store, flip, low, Item::from(c), far)
 }
 
 // Up from `low` through the cells that a walk passed, the last first.
 // A loop of its own beside `climb` of links: one loop over a step would ask for the invariants of both as parameters.
-pub fn regrow<K: Kind>(
-    kind: &K,
-    cells: &mut [Cell<K::Element, K::Summary>],
-    pool: &mut Pool,
-    flip: bool,
-    low: u32,
-    passed: &[u32],
-) -> u32
-    requires { Growable (K.meaning kind.now) flip cells.old pool.old low passed.now }
-    ensures { Regrown (K.meaning kind.now) flip cells.old pool.old (low ∷ []) (seen flip cells.old low) 0 passed.now cells.new pool.new result }
+pub fn regrow<K: Kind>(store: &mut Store<'_, K>, flip: bool, low: u32, passed: &[u32]) -> u32
+    requires { Growable (K.meaning store.old.kind.now) flip store.old.cells.now store.old.pool low passed.now }
+    ensures same { SameLoan store.old store.new }
+    ensures regrown { Regrown (K.meaning store.old.kind.now) flip store.old.cells.now store.old.pool (low ∷ []) (seen flip store.old.cells.now low) 0 passed.now store.new.cells.now store.new.pool result }
 {
     let mut x = low;
     for &i in passed.iter().rev() {
-        x = regrow_one(kind, cells, pool, flip, x, i);
+        x = regrow_one(store, flip, x, i);
     }
     x
 }

@@ -3,7 +3,7 @@ ghost use Rattle.std.specs.Prelude.{◌≡◌};
 ghost use Rattle.balance.specs.Ways.{span};
 ghost use Rattle.cells.specs.Cells.{shape, tree, Live, Sound};
 
-use cells::{Cell, summary_at};
+use cells::{Cell, Store, summary_at};
 use kinds::Kind;
 use std::marker::Model;
 
@@ -32,6 +32,15 @@ impl<'a, K: Kind> View<'a, K> {
         ensures { result ≡ record { kind = kind.now; cells = cells.now; root = root } }
     {
         View { kind, cells, root }
+    }
+
+    // The tree under a root of a store.
+    pub fn of(store: &'a Store<'_, K>, root: u32) -> View<'a, K>
+        requires sound { Sound (K.meaning store.now.kind.now) store.now.cells.now }
+        requires live { Live store.now.cells.now root }
+        ensures { result ≡ record { kind = store.now.kind.now; cells = store.now.cells.now; root = root } }
+    {
+        View::new(store.kind, store.cells, root)
     }
 
     // The tree under another link.

@@ -12,4 +12,4 @@ pub returns-in-Some-clause-grows : goal.returns-in-Some-clause-grows
 returns-in-Some-clause-grows g c = rw c.in-Some.is (joined_some (rw c.in-Some.is at c.requires.owns) c.item_of.ensures.element c.link.ensures.yields)
 
 pub returns-in-None-clause-grows : goal.returns-in-None-clause-grows
-returns-in-None-clause-grows g c = rw c.in-None.is (joined_none (g.K.Kind.meaning c.args.kind.now) c.args.cells.now c.args.pool.now c.args.left)
+returns-in-None-clause-grows g c = rw c.in-None.is (joined_none (g.K.Kind.meaning c.args.store.now.kind.now) c.args.store.now.cells.now c.args.store.now.pool c.args.left)

@@ -6,41 +6,41 @@ use Rattle.splits.proofs.parting.part.Goals as goal
 
 pub returns-then-place-width-clause-splits : goal.returns-then-place-width-clause-splits
 returns-then-place-width-clause-splits g c =
-    let width = rw c.new-view.ensures at c.width.ensures in
-    splits_beyond c.requires.owns c.args.place (omega (arith, width, c.if-place-width.true)) c.retain.new.cells c.retain.ensures.retains
+    let width = rw c.of-view.ensures at c.width.ensures in
+    rw c.retain.ensures.pool (splits_beyond c.requires.owns c.args.place (omega (arith, width, c.if-place-width.true)) c.retain.new.self.cells.now c.retain.ensures.retains)
 
 pub returns-then-place-width-clause-lists : goal.returns-then-place-width-clause-lists
 returns-then-place-width-clause-lists g c = divides_tree _ _ (returns-then-place-width-clause-splits g c)
 
 pub descend-cell-requires-clause-few : goal.descend-cell-requires-clause-few
-descend-cell-requires-clause-few g c = rw c.new-view.ensures (root_few c.requires.owns c.requires.few)
+descend-cell-requires-clause-few g c = rw c.of-view.ensures (root_few c.requires.owns c.requires.few)
 
 pub cell_at-c-requires : goal.cell_at-c-requires
 cell_at-c-requires g c =
-    let w = rw c.new-view.ensures at c.descend-cell.ensures.walked in
-    some_in c.args.cells.now c.descend-cell.result.cell w.cell w.at
+    let w = rw c.of-view.ensures at c.descend-cell.ensures.walked in
+    some_in c.args.store.now.cells.now c.descend-cell.result.cell w.cell w.at
 
 pub behind_of-loose-requires : goal.behind_of-loose-requires
 behind_of-loose-requires g c =
-    let width = rw c.new-view.ensures at c.width.ensures in
-    let w = rw c.new-view.ensures at c.descend-cell.ensures.walked in
-    rw c.as_slice.ensures.value (asks_behind c.requires.owns (g.K.Kind.laws c.args.kind.now) c.requires.few w c.cell_at-c.ensures (omega (arith, width, c.if-place-width.false)) c.requires.some)
+    let width = rw c.of-view.ensures at c.width.ensures in
+    let w = rw c.of-view.ensures at c.descend-cell.ensures.walked in
+    rw c.as_slice.ensures.value (asks_behind c.requires.owns (g.K.Kind.laws c.args.store.now.kind.now) c.requires.few w c.cell_at-c.ensures (omega (arith, width, c.if-place-width.false)) c.requires.some)
 
 pub before_of-requires : goal.before_of-requires
 before_of-requires g c =
-    let width = rw c.new-view.ensures at c.width.ensures in
-    let w = rw c.new-view.ensures at c.descend-cell.ensures.walked in
+    let width = rw c.of-view.ensures at c.width.ensures in
+    let w = rw c.of-view.ensures at c.descend-cell.ensures.walked in
     let behind = c.behind_of-loose.ensures in
-    rw c.as_slice-2.ensures.value (asks_before c.requires.owns (g.K.Kind.laws c.args.kind.now) c.requires.few w c.cell_at-c.ensures (omega (arith, width, c.if-place-width.false))
+    rw (c.as_slice-2.ensures.value, c.behind_of-loose.ensures.same.kind) (asks_before c.requires.owns (g.K.Kind.laws c.args.store.now.kind.now) c.requires.few w c.cell_at-c.ensures (omega (arith, width, c.if-place-width.false))
     (rw c.as_slice.ensures.value at behind.regrown) behind.tied behind.element c.requires.some)
 
 pub returns-clause-splits : goal.returns-clause-splits
 returns-clause-splits g c =
-    let width = rw c.new-view.ensures at c.width.ensures in
-    let w = rw c.new-view.ensures at c.descend-cell.ensures.walked in
+    let width = rw c.of-view.ensures at c.width.ensures in
+    let w = rw c.of-view.ensures at c.descend-cell.ensures.walked in
     let behind = c.behind_of-loose.ensures in
-    splits_inside c.requires.owns (g.K.Kind.laws c.args.kind.now) c.requires.few w c.cell_at-c.ensures (omega (arith, width, c.if-place-width.false))
-    (rw c.as_slice.ensures.value at behind.regrown) behind.tied behind.element (rw c.as_slice-2.ensures.value at c.before_of.ensures)
+    splits_inside c.requires.owns (g.K.Kind.laws c.args.store.now.kind.now) c.requires.few w c.cell_at-c.ensures (omega (arith, width, c.if-place-width.false))
+    (rw c.as_slice.ensures.value at behind.regrown) behind.tied behind.element (rw (c.as_slice-2.ensures.value, c.behind_of-loose.ensures.same.kind) at c.before_of.ensures.regrown)
 
 pub returns-clause-lists : goal.returns-clause-lists
 returns-clause-lists g c = divides_tree _ _ (returns-clause-splits g c)

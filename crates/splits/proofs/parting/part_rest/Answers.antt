@@ -7,12 +7,12 @@ part_loose-requires g c = record {
   owns = rw c.in-Some.is at c.requires.owns;
   tied = rw c.in-Some.is at c.requires.tied;
   few = rw c.in-Some.is at c.requires.few;
-  short = loose_short (g.K.Kind.meaning c.args.kind.now) c.args.cells.now c.in-Some.loose (rw c.in-Some.is at c.requires.short);
+  short = loose_short (g.K.Kind.meaning c.args.store.now.kind.now) c.args.store.now.cells.now c.in-Some.loose (rw c.in-Some.is at c.requires.short);
   some = rw c.in-Some.is at c.requires.some;
 }
 
 pub returns-in-Some-clause-lists : goal.returns-in-Some-clause-lists
-returns-in-Some-clause-lists g c = rw c.in-Some.is (divides_rest _ _ c.part_loose.ensures)
+returns-in-Some-clause-lists g c = rw c.in-Some.is (divides_rest _ _ c.part_loose.ensures.splits)
 
 pub returns-in-None-clause-splits : goal.returns-in-None-clause-splits
 returns-in-None-clause-splits g c = rw c.in-None.is (nothing_splits c.requires.owns.arena c.args.place)

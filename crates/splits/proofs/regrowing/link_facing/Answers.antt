@@ -8,8 +8,8 @@ link-requires-clause-linkable g c = linkable_turned c.requires.holds c.if-flip.t
 pub link-requires-clause-some : goal.link-requires-clause-some
 link-requires-clause-some g c = omega (arith, c.requires.some, cost_turned c.requires.holds c.if-flip.true)
 
-pub returns-then-flip : goal.returns-then-flip
-returns-then-flip g c = grows_turned c.requires.holds c.if-flip.true c.args.item.element c.link.new.cells c.link.new.pool c.link.result c.link.ensures.yields
+pub returns-then-flip-clause-grows : goal.returns-then-flip-clause-grows
+returns-then-flip-clause-grows g c = grows_turned c.requires.holds c.if-flip.true c.args.item.element c.link.new.store.cells.now c.link.new.store.pool c.link.result c.link.ensures.yields
 
-pub returns : goal.returns
-returns g c = grows_plain c.requires.holds c.if-flip.false c.args.item.element c.link-2.new.cells c.link-2.new.pool c.link-2.result c.link-2.ensures.yields
+pub returns-clause-grows : goal.returns-clause-grows
+returns-clause-grows g c = grows_plain c.requires.holds c.if-flip.false c.args.item.element c.link-2.new.store.cells.now c.link-2.new.store.pool c.link-2.result c.link-2.ensures.yields

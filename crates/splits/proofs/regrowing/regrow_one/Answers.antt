@@ -11,7 +11,15 @@ link_facing-requires g c =
     let item = c.from.ensures in
     let far = c.far_of-far.ensures in
     let one = c.retain.ensures.retains in
-    record { holds = both_hold j at item far one; linkable = linkable_b j at item far one; whole = whole j at item; some = some_b j at item far one }
+    let kind = c.retain.ensures.same.kind in
+    record {
+      holds = rw (kind, c.retain.ensures.pool) (both_hold j at item far one);
+      linkable = rw kind (linkable_b j at item far one);
+      whole = rw kind (whole j at item);
+      some = rw c.retain.ensures.pool (some_b j at item far one);
+    }
 
-pub returns : goal.returns
-returns g c = grown c.requires c.cell_at-c.ensures c.from.ensures c.far_of-far.ensures c.retain.ensures.retains c.link_facing.ensures
+pub returns-clause-grown : goal.returns-clause-grown
+returns-clause-grown g c =
+    grown c.requires c.cell_at-c.ensures c.from.ensures c.far_of-far.ensures c.retain.ensures.retains
+    (rw (c.retain.ensures.same.kind, c.retain.ensures.pool) at c.link_facing.ensures.grows)
