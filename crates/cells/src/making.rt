@@ -34,8 +34,9 @@ pub fn make<K: Kind>(
     let count = count_at(cells, left) + 1 + count_at(cells, right);
     let behind = kind.join(item.own, summary_at(kind, cells, right));
     let summary = kind.join(summary_at(kind, cells, left), behind);
-    pool.head = cell_at(cells, i).left;
-    cells[i as usize] = Cell {
+    let taken = &mut cells[i as usize];
+    pool.head = taken.left;
+    *taken = Cell {
         element: item.element,
         own: item.own,
         left,
