@@ -30,5 +30,4 @@ pub fn stands<T>()
     ensures balance { BalanceLaws T }
     ensures costs { CostLaws T }
     ensures loops { LoopLaws T }
-{
-}
+{}

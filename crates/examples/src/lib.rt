@@ -5,5 +5,4 @@ ghost use Rattle.examples.specs.Table.{Examples};
 
 pub fn worked_examples()
     ensures { Examples }
-{
-}
+{}

@@ -21,32 +21,28 @@ pub fn places_stand<K: Kind>(kind: &K)
     ensures puts { PutsAtoms (K.meaning kind.now) }
     ensures takes { TakesAtoms (K.meaning kind.now) }
     ensures pasted { PasteOfCut (K.meaning kind.now) }
-{
-}
+{}
 
 // The element that holds an atom.
 pub fn reads_stand<K: Kind>(kind: &K)
     ensures some { ReadSome (K.meaning kind.now) }
     ensures one { ReadOne (K.meaning kind.now) }
     ensures atom { ReadAtom (K.meaning kind.now) }
-{
-}
+{}
 
 // The place at which a tally is reached.
 pub fn finds_stand<K: Kind>(kind: &K)
     ensures some { FindSome (K.meaning kind.now) }
     ensures one { FindOne (K.meaning kind.now) }
     ensures none { FindNone (K.meaning kind.now) }
-{
-}
+{}
 
 // Of several refusals that apply the smallest number is told, and a refused call changes nothing.
 pub fn refusals_stand<K: Kind>(kind: &K)
     ensures calls { CallSmallest (K.meaning kind.now) }
     ensures questions { QuestionSmallest (K.meaning kind.now) }
     ensures unchanged { RefusedChangesNothing (K.meaning kind.now) }
-{
-}
+{}
 
 // Where each call is accepted and each question is answered.
 pub fn acceptance_stands<K: Kind>(kind: &K)
@@ -59,8 +55,7 @@ pub fn acceptance_stands<K: Kind>(kind: &K)
     ensures forget { ForgetAccepted (K.meaning kind.now) }
     ensures questions { QuestionAnswered (K.meaning kind.now) }
     ensures sampled { LacksNone (K.meaning kind.now) }
-{
-}
+{}
 
 // Every list of calls on a session just started, refused ones included: its lists are what the edits in
 // force and the edits undone make.
@@ -69,8 +64,7 @@ pub fn runs_stand<K: Kind>(kind: &K)
     ensures undo { RunUndo (K.meaning kind.now) }
     ensures redo { RunRedo (K.meaning kind.now) }
     ensures sound { RunSound (K.meaning kind.now) }
-{
-}
+{}
 
 // Holds, over every list of calls: since when a version is held, and where a hold and a release are accepted.
 pub fn holds_stand<K: Kind>(kind: &K)
@@ -80,5 +74,4 @@ pub fn holds_stand<K: Kind>(kind: &K)
     ensures apart { RunApart (K.meaning kind.now) }
     ensures release { RunRelease (K.meaning kind.now) }
     ensures hold { RunHold (K.meaning kind.now) }
-{
-}
+{}
