@@ -21,7 +21,7 @@ pub fn rotates_once(inner: u32, outer: u32) -> bool
 }
 
 // The laws hold of trees over any elements.
-pub fn stands<T>() -> u8
+pub fn stands<T>()
     ensures lists { ListLaws T }
     ensures links { LinkLaws T }
     ensures ways { WayLaws T }
@@ -30,6 +30,4 @@ pub fn stands<T>() -> u8
     ensures balance { BalanceLaws T }
     ensures costs { CostLaws T }
     ensures loops { LoopLaws T }
-{
-    0
-}
+{}

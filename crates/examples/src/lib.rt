@@ -3,8 +3,6 @@
 
 ghost use Rattle.examples.specs.Table.{Examples};
 
-pub fn worked_examples() -> u8
+pub fn worked_examples()
     ensures { Examples }
-{
-    0
-}
+{}

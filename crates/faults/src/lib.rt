@@ -3,11 +3,13 @@
 #![tactic(auto)]
 
 mod causes;
+mod limits;
 mod reel;
 mod script;
 mod session;
 
 pub use causes::Cause;
+pub use limits::LIMIT;
 pub use reel::ReelFault;
 pub use script::{ScriptFault, Stop};
 pub use session::SessionFault;

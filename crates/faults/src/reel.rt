@@ -3,21 +3,18 @@ ghost use Rattle.faults.specs.Numbers.{reel_number};
 
 use std::fmt;
 
-// Why bytes are no reel.
+// Why bytes are no reel, each with its number.
 #[derive(Clone, Copy, PartialEq, Eq, Debug)]
 pub enum ReelFault {
-    OddBytes,
-    TooLong,
+    OddBytes = 19,
+    TooLong = 21,
 }
 
 impl ReelFault {
     pub fn number(self) -> u16
         ensures { result ≡ reel_number self }
     {
-        match self {
-            ReelFault::OddBytes => 19,
-            ReelFault::TooLong => 21,
-        }
+        self as u16
     }
 }
 

@@ -7,7 +7,7 @@ use crate::reel::ReelFault;
 use crate::session::SessionFault;
 
 // Why a script's record is refused: by the session, or for its own shape.
-#[derive(Clone, Copy)]
+#[derive(Clone, Copy, PartialEq, Eq, Debug)]
 pub enum ScriptFault {
     Refused(SessionFault),
     UnknownKind,
@@ -46,7 +46,7 @@ impl From<SessionFault> for ScriptFault {
 
 // Why a run of a script stopped: at its end, before a record whose reply has no room or that is cut
 // short, or before the first record of a track over bytes that are no reel.
-#[derive(Clone, Copy)]
+#[derive(Clone, Copy, PartialEq, Eq, Debug)]
 pub enum Stop {
     End,
     NoRoom,

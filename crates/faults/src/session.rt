@@ -5,7 +5,7 @@ ghost use Rattle.faults.specs.declared.session.SessionFault.TheVariants.{Unlawfu
 use crate::causes::Cause;
 
 // Why a session refuses a call, in the order of the numbers.
-#[derive(Clone, Copy)]
+#[derive(Clone, Copy, PartialEq, Eq, Debug)]
 pub enum SessionFault {
     NotHeld,
     BeyondEnd,

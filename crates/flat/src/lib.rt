@@ -2,7 +2,7 @@
 // functions here are the conditions that need no list, and promises names what is proved of them.
 #![tactic(auto)]
 
-ghost use Rattle.std.specs.Prelude.{◌≡◌};
+ghost use Rattle.std.specs.Prelude.{◌≡◌, Some, None, MatchResult};
 ghost use Rattle.flat.specs.Refusals.{empty_range_fault, few_cells_fault};
 
 use faults::SessionFault;
@@ -17,24 +17,22 @@ pub use promises::{
 // An edit or a copy wants this many cells free, whatever it then takes.
 pub const CELLS_WANTED: usize = 2048;
 
-// A range of no atoms is refused.
-pub fn empty_range(len: u32) -> Option<SessionFault>
-    ensures { result ≡ empty_range_fault len }
+// Refuses a range of no atoms.
+pub fn not_empty(len: u32) -> Result<(), SessionFault>
+    ensures { MatchResult result (λ _. empty_range_fault len ≡ None) (λ f. empty_range_fault len ≡ Some f) }
 {
     if len == 0 {
-        Some(SessionFault::EmptyRange)
-    } else {
-        None
+        return Err(SessionFault::EmptyRange);
     }
+    Ok(())
 }
 
-// An edit or a copy that finds too few cells free is refused.
-pub fn few_cells(free: usize) -> Option<SessionFault>
-    ensures { result ≡ few_cells_fault free }
+// Refuses an edit or a copy that finds too few cells free.
+pub fn enough_cells(free: usize) -> Result<(), SessionFault>
+    ensures { MatchResult result (λ _. few_cells_fault free ≡ None) (λ f. few_cells_fault free ≡ Some f) }
 {
     if free < CELLS_WANTED {
-        Some(SessionFault::FewCells)
-    } else {
-        None
+        return Err(SessionFault::FewCells);
     }
+    Ok(())
 }

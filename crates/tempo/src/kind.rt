@@ -3,10 +3,8 @@ ghost use Rattle.tempo.specs.Tempo.{tempo};
 
 use crate::beats::Beats;
 use crate::span::Span;
-use faults::Cause;
+use faults::{Cause, LIMIT};
 use kinds::{Kind, Tally};
-
-const MOST_TICKS: u32 = 1073741824;
 
 const MOST_TEMPO: u32 = 16777215;
 
@@ -36,7 +34,7 @@ impl Kind for Tempo {
         if b > MOST_TEMPO {
             return Err(Cause::TempoAboveLimit);
         }
-        if a > MOST_TICKS {
+        if a > LIMIT {
             return Err(Cause::ExtentAboveLimit);
         }
         Ok(Span { ticks: a, tempo: b })
@@ -66,7 +64,7 @@ impl Kind for Tempo {
     }
 
     fn empty(&self) -> Beats {
-        Beats { ticks: 0, units: 0 }
+        Beats::default()
     }
 
     fn join(&self, s: Beats, t: Beats) -> Beats {
