@@ -42,8 +42,8 @@ fn put_bytes(block: &[i16], out: &mut [u8])
     requires { length out.old ≡ 2 * length block.now }
     ensures { out.new ≡ bytes_of block.now }
 {
-    for i in 0..block.len() {
-        let [low, high] = block[i].to_le_bytes();
+    for (i, s) in block.iter().enumerate() {
+        let [low, high] = s.to_le_bytes();
         out[2 * i] = low;
         out[2 * i + 1] = high;
     }
