@@ -41,15 +41,11 @@ pub(crate) fn measure<R: Reel>(reel: &R, start: u32, frames: u32) -> Levels
 {
     let mut scratch = [0i16; BLOCK];
     let mut sum = silence();
-    let mut done = 0;
-    loop {
-        let more = measure_block(reel, start + done, frames - done, &mut scratch);
-        if more.frames == 0 {
-            return sum;
-        }
-        sum = louder(sum, more);
-        done += more.frames;
+    let end = start.saturating_add(frames).min(reel.len());
+    for at in (start..end).step_by(BLOCK) {
+        sum = louder(sum, measure_block(reel, at, end - at, &mut scratch));
     }
+    sum
 }
 
 // The same, for as many frames as fit the scratch block.
@@ -70,8 +66,7 @@ fn levels_of(block: &[i16]) -> Levels
     let mut low = 32767i16;
     let mut high = -32768i16;
     let mut clipped = 0u32;
-    for i in 0..block.len() {
-        let s = block[i];
+    for &s in block {
         low = low.min(s);
         high = high.max(s);
         clipped += at_end(s);

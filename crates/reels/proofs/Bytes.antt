@@ -1,8 +1,8 @@
 -- Samples as bytes, two each, the low byte first.
-use Rattle.std.proofs.Common.{◌≡◌, ℕ, ◌+◌, ◌-◌, ◌*◌, ◌/◌, ◌%◌, ◌<◌, ◌≤◌, List, [], ◌∷◌, ◌++◌, length, get_or, take, drop, set, ℤ, pos, negsuc, sym, refl, ap, ◌∙◌, arith, length-append, length-drop, length-take, w16, SFits, of_z}
+use Rattle.std.proofs.Common.{◌≡◌, ℕ, ◌+◌, ◌-◌, ◌*◌, ◌/◌, ◌%◌, ◌<◌, ◌≤◌, min, List, [], ◌∷◌, ◌++◌, length, get_or, take, drop, set, ℤ, pos, negsuc, sym, refl, ap, ◌∙◌, arith, length-append, length-drop, length-take, w16, SFits, of_z}
 use Rattle.std.proofs.lemmas.List.{append-nil, append_assoc, take_at, drop_at, drop_all, drop-drop, take_more, take_rest}
 use borrow.Rule.Slice.PartMut.{put_mid}
-use Rattle.reels.specs.Samples.{bytes_of, stretch}
+use Rattle.reels.specs.Samples.{WrittenBlock, bytes_of, stretch}
 use Rattle.reels.proofs.Copies.{length_stretch, stretch_both}
 use Rattle.reels.proofs.Lists.{over_step}
 
@@ -59,3 +59,13 @@ module _ (samples : List ℤ) (start done : ℕ) (before out : List ℕ) (so_far
       ap (λ v. take (2 * done) out ++ (after ++ v)) over ∙ ap (λ v. take (2 * done) out ++ v) (append-nil after) ∙ ap (λ v. v ++ after) begun
       ∙ ap (λ v. one ++ v) (e ∙ ap (λ v. two ++ v) rest) ∙ sym (append_assoc one two (drop (2 * (done + n)) before))
       ∙ ap (λ v. v ++ drop (2 * (done + n)) before) (sym (bytes_append (stretch samples start done) (stretch samples (start + done) n)) ∙ ap bytes_of (sym (stretch_both samples start done n)))
+
+-- The same of n samples that fit, by blocks of 512: up to where the next block begins.
+pub block_step : (samples : List ℤ) (start n done : ℕ) (before out : List ℕ) → n ≡ min (length before / 2) (length samples - start) → done < n → out ≡ bytes_of (stretch samples start (min done n)) ++ drop (2 * min done n) before → {after : List ℕ} {m : ℕ} → WrittenBlock 512 samples (start + done) (take (length out - 2 * done) (drop (2 * done) out)) after m → put_mid (2 * done) (length out - 2 * done) out after ≡ bytes_of (stretch samples start (min (done + 512) n)) ++ drop (2 * min (done + 512) n) before
+block_step samples start n done before out fit below written {after = after} {m = m} w =
+    let here : min done n ≡ done = omega arith in
+    let so_far : out ≡ bytes_of (stretch samples start done) ++ drop (2 * done) before = rw here at written in
+    let few : done ≤ length samples - start = omega arith in
+    let left = part_length samples start done before out so_far few in
+    let next : done + m ≡ min (done + 512) n = omega (arith, left, w.count) in
+    block_more samples start done before out so_far few m after w.bytes ∙ ap (λ k. bytes_of (stretch samples start k) ++ drop (2 * k) before) next
