@@ -3,24 +3,13 @@ ghost use Rattle.std.specs.Int.{w16};
 ghost use Rattle.std.specs.List.{AllByRecursion};
 ghost use Rattle.reels.specs.Samples.{stretch};
 ghost use Rattle.kinds.specs.Kinds.{total};
-ghost use Rattle.audio.specs.Audio.{audio, count_at_end, one_sample, no_samples, joined_levels};
+ghost use Rattle.audio.specs.Audio.{audio, count_at_end, joined_levels};
 
 use crate::levels::Levels;
 use reels::Reel;
 
 // How many samples are copied at a time.
 const BLOCK: usize = 512;
-
-pub(crate) fn silence() -> Levels
-    ensures { result ≡ no_samples }
-{
-    Levels {
-        frames: 0,
-        low: 32767,
-        high: -32768,
-        clipped: 0,
-    }
-}
 
 // Two summaries joined, where their numbers fit.
 pub(crate) fn louder(s: Levels, t: Levels) -> Levels
@@ -40,7 +29,7 @@ pub(crate) fn measure<R: Reel>(reel: &R, start: u32, frames: u32) -> Levels
     ensures { result ≡ total (audio (R.samples reel.now)) (stretch (R.samples reel.now) start frames) }
 {
     let mut scratch = [0i16; BLOCK];
-    let mut sum = silence();
+    let mut sum = Levels::default();
     let end = start.saturating_add(frames).min(reel.len());
     for at in (start..end).step_by(BLOCK) {
         sum = louder(sum, measure_block(reel, at, end - at, &mut scratch));

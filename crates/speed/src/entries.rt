@@ -72,4 +72,3 @@ fn gained<'a>(bytes: &'a [u8], n: u16) -> Result<Gain<Pcm<'a>>, ReelFault>
 {
     Ok(Gain::new(Pcm::new(bytes)?, n))
 }
-

@@ -1,6 +1,6 @@
 use Rattle.std.proofs.Common.{length, sym, ap, ◌∙◌, arith}
 use Rattle.kinds.specs.Kinds.{of_numbers}
-use Rattle.audio.specs.Audio.{clip_made}
+use Rattle.audio.specs.Audio.{audio_reel, clip_made}
 use Rattle.speed.specs.Summaries.{levels_of_samples}
 use Rattle.speed.proofs.Elements.{whole_levels, none_levels}
 use Rattle.speed.proofs.whole.levels_of.Goals as goal
@@ -8,7 +8,7 @@ use Rattle.speed.proofs.whole.levels_of.Goals as goal
 pub returns-in-Ok : goal.returns-in-Ok
 returns-in-Ok g c =
     let samples = g.R.Reel.samples in
-    let there = c.new-kind.result.reel in
+    let there = audio_reel c.new-kind.result in
     let is = sym c.in-Ok.ensures in
     let lawful = of_numbers 0 c.len-frames.result c.in-Ok.all (omega arith) (omega arith) is in
     let all = ap (clip_made (samples there) 0) (sym (c.len-frames.ensures ∙ ap (λ r. length (samples r)) (sym c.new-kind.ensures))) ∙ is in
@@ -19,7 +19,7 @@ returns-in-Ok g c =
 pub returns-in-Err : goal.returns-in-Err
 returns-in-Err g c =
     let samples = g.R.Reel.samples in
-    let there = c.new-kind.result.reel in
+    let there = audio_reel c.new-kind.result in
     let is = sym c.in-Err.ensures in
     let all = ap (clip_made (samples there) 0) (sym (c.len-frames.ensures ∙ ap (λ r. length (samples r)) (sym c.new-kind.ensures))) ∙ is in
     c.empty.ensures
