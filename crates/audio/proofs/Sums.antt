@@ -1,8 +1,8 @@
 -- Levels of samples that come one by one, or block by block.
-use Rattle.std.proofs.Common.{◌≡◌, ℕ, zero, suc, ◌+◌, ◌-◌, ◌^◌, ◌<◌, ◌≤◌, min, List, [], ◌∷◌, ◌++◌, length, get_or, take, drop, ℤ, pos, sym, refl, ap, ◌∙◌, arith, length-drop, length-take, w16, SFits}
+use Rattle.std.proofs.Common.{◌≡◌, ℕ, ◌+◌, ◌-◌, ◌^◌, ◌<◌, ◌≤◌, min, List, [], ◌∷◌, ◌++◌, length, get_or, take, drop, ℤ, pos, sym, refl, ap, ◌∙◌, arith, length-drop, length-take, w16, SFits}
 use Rattle.std.specs.List.{AllByRecursion}
 use Rattle.std.proofs.ByRecursion.{All-take, All-drop}
-use Rattle.std.proofs.lemmas.List.{take_more}
+use Rattle.std.proofs.lemmas.List.{take_min, take_more}
 use Rattle.kinds.specs.Kinds.{total}
 use Rattle.reels.specs.Samples.{Bounds, stretch}
 use Rattle.reels.proofs.Copies.{stretch_both}
@@ -28,11 +28,6 @@ total_more a xs i h p f =
     ∙ ap (joined_levels (total (audio a) (take i xs))) (none_right (one_sample (get_or xs i (pos 0))) f f)
 
 -- a stretch ends where the samples end
-take_min : {X : Type 0} (k : ℕ) (xs : List X) → take (min k (length xs)) xs ≡ take k xs
-take_min zero xs = let e : min 0 (length xs) ≡ 0 = omega arith in rw e
-take_min (suc k) [] = let e : min (suc k) 0 ≡ 0 = omega arith in rw e
-take_min (suc k) (x ∷ xs) = let e : min (suc k) (suc (length xs)) ≡ suc (min k (length xs)) = omega arith in rw e (ap (λ v. x ∷ v) (take_min k xs))
-
 pub stretch_end : (samples : List ℤ) (start n k : ℕ) → n ≡ min k (length samples - start) → stretch samples start n ≡ stretch samples start k
 stretch_end samples start n k h =
     let there : n ≡ min k (length (drop start samples)) = rw length-drop h in

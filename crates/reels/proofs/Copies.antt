@@ -1,7 +1,8 @@
 -- What is common to all bulk copies of a stretch of samples.
 use Rattle.std.proofs.Common.{◌≡◌, ℕ, zero, suc, ◌+◌, ◌-◌, ◌≤◌, min, List, [], ◌∷◌, ◌++◌, length, get_or, take, drop, ℤ, Some, None, inl, inr, sym, ap, ◌∙◌, arith, length-drop, length-take}
 use Rattle.std.specs.List.{slice_get}
-use Rattle.std.proofs.lemmas.List.{drop-drop, drop-append-le, drop_all, append-nil, append_assoc, take_at, drop_at, take_more, take_rest, get_or-drop}
+use Rattle.std.proofs.Math.Seq.{drop-append-add}
+use Rattle.std.proofs.lemmas.List.{take-append-drop, take-take, drop-take, drop-drop, drop-append-le, drop_all, append-nil, append_assoc, take_at, drop_at, take_more, take_rest, get_or-drop}
 use Rattle.std.proofs.lemmas.Option.{slice_get_cases, slice_get_within, get_or_from_slice_get}
 use borrow.Rule.Slice.PartMut.{put_mid}
 use Rattle.reels.specs.Samples.{Copied, stretch}
@@ -26,10 +27,8 @@ stretch_more samples start i x e =
 
 -- a stretch in two parts
 pub take_both : {X : Type 0} (a b : ℕ) (xs : List X) → take (a + b) xs ≡ take a xs ++ take b (drop a xs)
-take_both zero b xs = let e : 0 + b ≡ b = omega arith in rw e
-take_both (suc a) zero [] = let e : suc a + 0 ≡ suc a = omega arith in rw e
-take_both (suc a) (suc b) [] = let e : suc a + suc b ≡ suc (a + suc b) = omega arith in rw e
-take_both (suc a) b (x ∷ xs) = let e : suc a + b ≡ suc (a + b) = omega arith in rw e (ap (λ v. x ∷ v) (take_both a b xs))
+take_both a b xs =
+    sym (take-append-drop a (take (a + b) xs)) ∙ ap (λ v. v ++ drop a (take (a + b) xs)) (take-take a (a + b) xs (omega arith)) ∙ ap (λ v. take a xs ++ v) (drop-take a b xs)
 
 pub stretch_both : (samples : List ℤ) (start a b : ℕ) → stretch samples start (a + b) ≡ stretch samples start a ++ stretch samples (start + a) b
 stretch_both samples start a b = take_both a b (drop start samples) ∙ ap (λ v. stretch samples start a ++ take b v) (drop-drop a start samples)
@@ -44,9 +43,9 @@ take_over (suc k) (x ∷ xs) ys =
     rw (e, f) (ap (λ v. x ∷ v) (take_over k xs ys))
 
 drop_over : {X : Type 0} (k : ℕ) (xs ys : List X) → length xs ≤ k → drop k (xs ++ ys) ≡ drop (k - length xs) ys
-drop_over k [] ys h = let e : k - 0 ≡ k = omega arith in rw e
-drop_over zero (x ∷ xs) ys h = absurd (omega arith)
-drop_over (suc k) (x ∷ xs) ys h = let e : suc k - suc (length xs) ≡ k - length xs = omega arith in rw e (drop_over k xs ys (omega arith))
+drop_over k xs ys h =
+    let e : k ≡ length xs + (k - length xs) = omega arith in
+    ap (λ m. drop m (xs ++ ys)) e ∙ drop-append-add xs ys (k - length xs)
 
 pub stretch_front : (xs ys : List ℤ) (start k : ℕ) → start ≤ length xs → stretch (xs ++ ys) start k ≡ stretch xs start (min k (length xs - start)) ++ take (k - (length xs - start)) ys
 stretch_front xs ys start k h =

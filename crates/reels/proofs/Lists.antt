@@ -1,5 +1,5 @@
 -- Lists that are made entry by entry, and what stands at a place of one.
-use Rattle.std.proofs.Common.{◌≡◌, ℕ, zero, suc, ◌+◌, ◌<◌, ◌≤◌, min, List, [], ◌∷◌, ◌++◌, map, length, get_or, take, drop, set, Some, None, sym, refl, ap, ◌∙◌, arith, length-take}
+use Rattle.std.proofs.Common.{◌≡◌, ℕ, zero, suc, ◌+◌, ◌<◌, ◌≤◌, min, List, [], ◌∷◌, ◌++◌, map, length, get_or, take, drop, set, sym, refl, ap, ◌∙◌, arith, length-take}
 use Rattle.std.specs.List.{slice_get}
 use Rattle.std.proofs.lemmas.List.{take_all, drop_more, get_or_at, set_at, append_assoc, take-take, drop-take, take-map, drop-map}
 use Rattle.reels.specs.Samples.{cut}
@@ -9,21 +9,6 @@ nth_take zero xs i h = absurd (omega arith)
 nth_take (suc n) [] i h = refl
 nth_take (suc n) (x ∷ xs) zero h = refl
 nth_take (suc n) (x ∷ xs) (suc i) h = nth_take n xs i (omega arith)
-
-pub nth_drop : {X : Type 0} (n : ℕ) (xs : List X) (i : ℕ) → slice_get (drop n xs) i ≡ slice_get xs (n + i)
-nth_drop zero xs i = let e : 0 + i ≡ i = omega arith in rw e
-nth_drop (suc n) [] i = refl
-nth_drop (suc n) (x ∷ xs) i = let e : suc n + i ≡ suc (n + i) = omega arith in rw e (nth_drop n xs i)
-
-pub nth_map_some : {X Y : Type 0} (f : X → Y) (xs : List X) (i : ℕ) (x : X) → slice_get xs i ≡ Some x → slice_get (map f xs) i ≡ Some (f x)
-nth_map_some f [] i x h = cc
-nth_map_some f (y ∷ ys) zero x h = cc
-nth_map_some f (y ∷ ys) (suc i) x h = nth_map_some f ys i x h
-
-pub nth_map_none : {X Y : Type 0} (f : X → Y) (xs : List X) (i : ℕ) → slice_get xs i ≡ None → slice_get (map f xs) i ≡ None
-nth_map_none f [] i h = refl
-nth_map_none f (y ∷ ys) zero h = cc
-nth_map_none f (y ∷ ys) (suc i) h = nth_map_none f ys i h
 
 pub nth_front : {X : Type 0} (xs ys : List X) (i : ℕ) → i < length xs → slice_get (xs ++ ys) i ≡ slice_get xs i
 nth_front [] ys i h = absurd (omega arith)

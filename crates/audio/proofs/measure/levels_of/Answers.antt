@@ -1,6 +1,5 @@
-use Rattle.std.proofs.Common.{◌≡◌, length, get_or, pos, ap, arith, w16, SFits, to_z, of_z, rules}
+use Rattle.std.proofs.Common.{◌≡◌, get_or, pos, ap, arith, w16, SFits, to_z, of_z, rules}
 use Rattle.std.proofs.ByRecursion.{All-get_or}
-use Rattle.std.proofs.lemmas.List.{take_all}
 use Rattle.std.proofs.lemmas.Int.{to_z-of_z}
 use Rattle.audio.specs.Audio.{count_at_end, joined_levels}
 use Rattle.audio.specs.Levels.{at_end_le}
@@ -18,9 +17,3 @@ loop-s-preserved c =
     let lf : SFits w16 c.min-low.result = search rules in
     let hf : SFits w16 c.max-high.result = search rules in
     record { so_far = grind (arith, to_z-of_z); few = omega (arith, at_end_le (get_or xs i (pos 0)), ap count_at_end s) }
-
-pub returns : goal.returns
-returns c =
-    let all = take_all c.loop-s.s-index c.args.block.now c.loop-s-test.false in
-    let whole : c.loop-s.s-index ≡ length c.args.block.now = omega arith in
-    cc
