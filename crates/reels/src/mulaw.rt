@@ -83,7 +83,8 @@ impl<'a> Reel for MuLaw<'a> {
     }
 }
 
-// Decodes as many bytes into the block.
+// Decodes as many bytes into the block. The bytes go by index: of what a zip of `iter_mut` writes, a
+// proof knows nothing.
 fn expand(bytes: &[u8], block: &mut [i16])
     requires { length bytes.now ≡ length block.old }
     ensures { block.new ≡ map decoded bytes.now }

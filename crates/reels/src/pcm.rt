@@ -58,7 +58,8 @@ impl<'a> Reel for Pcm<'a> {
     }
 }
 
-// Fills the block from as many pairs of bytes.
+// Fills the block from as many pairs of bytes. The bytes go by index: of what a zip of `iter_mut`
+// writes, a proof knows nothing.
 fn take_pairs(bytes: &[u8], block: &mut [i16])
     requires { length bytes.now ≡ 2 * length block.old }
     ensures { block.new ≡ pairs bytes.now }

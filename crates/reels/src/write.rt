@@ -34,7 +34,8 @@ fn write_block<R: Reel>(reel: &R, start: u32, scratch: &mut [i16; BLOCK], out: &
     n
 }
 
-// Writes each sample as two bytes.
+// Writes each sample as two bytes. They go by index: of what `chunks_exact_mut` lends, a proof knows
+// the length alone.
 fn put_bytes(block: &[i16], out: &mut [u8])
     requires { length out.old ≡ 2 * length block.now }
     ensures { out.new ≡ bytes_of block.now }

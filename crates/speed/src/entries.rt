@@ -1,5 +1,6 @@
 // The C functions: for each of four piles of layers, its levels and its samples as bytes. Writing
-// says how many samples were written; the bytes beyond stay as found.
+// says how many samples were written; the bytes beyond stay as found. They are eight, since a C
+// function has no type parameter.
 ghost use Rattle.std.specs.Prelude.{◌≡◌};
 ghost use Rattle.reels.specs.Samples.{Written};
 ghost use Rattle.speed.specs.Piles.{held_by, pcm_pile, mu_law_pile, gain_pile, joined_pile};
