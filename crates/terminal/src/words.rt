@@ -1,4 +1,4 @@
-ghost use Rattle.std.specs.Prelude.{◌≡◌, ◌≤◌, ◌∷◌, length, IfOk, string_bytes};
+ghost use Rattle.std.specs.Prelude.{◌≡◌, ◌≤◌, ◌∷◌, map, length, IfOk, string_bytes};
 ghost use Rattle.std.specs.Slice.Iter.{iter_rest};
 
 use anyhow::{Context, anyhow};
@@ -13,7 +13,7 @@ pub fn called_with(rt: &(impl Env + AllocGlobal)) -> anyhow::Result<Vec<String>>
 
 // The word behind an option that has a value.
 pub fn value<'a>(words: &mut Iter<'a, String>) -> anyhow::Result<&'a str>
-    ensures next { IfOk result (λ w. (s : _) × (iter_rest words.old ≡ s ∷ iter_rest words.new) × (w.now ≡ string_bytes s)) }
+    ensures next { IfOk result (λ w. map string_bytes (iter_rest words.old) ≡ w.now ∷ map string_bytes (iter_rest words.new)) }
     ensures rest { length (iter_rest words.new) ≤ length (iter_rest words.old) }
 {
     let word = words.next().context("the last option wants a value")?;
