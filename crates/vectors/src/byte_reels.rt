@@ -1,13 +1,21 @@
 // Reels of bytes: which bytes are one, and the samples at the ends of the range.
+ghost use Rattle.std.specs.Prelude.{◌≡◌, IfOk};
+ghost use Rattle.reels.specs.MuLaw.{mu_law_bytes};
+ghost use Rattle.reels.specs.Pcm.{pcm_bytes};
+
 use faults::ReelFault;
 use reels::{MuLaw, Pcm, Reel};
 use std::test::Fail;
 
-pub(crate) fn pcm(bytes: &[u8]) -> Result<Pcm<'_>, Fail> {
+pub(crate) fn pcm(bytes: &[u8]) -> Result<Pcm<'_>, Fail>
+    ensures { IfOk result (λ p. pcm_bytes p ≡ bytes.now) }
+{
     Pcm::new(bytes).map_err(Fail::new)
 }
 
-pub(crate) fn mulaw(bytes: &[u8]) -> Result<MuLaw<'_>, Fail> {
+pub(crate) fn mulaw(bytes: &[u8]) -> Result<MuLaw<'_>, Fail>
+    ensures { IfOk result (λ m. mu_law_bytes m ≡ bytes.now) }
+{
     MuLaw::new(bytes).map_err(Fail::new)
 }
 
