@@ -9,7 +9,7 @@ ghost use Rattle.cells.specs.Moves.{Fits, Makes, Yields};
 use crate::cell::Cell;
 use crate::item::Item;
 use crate::pool::Pool;
-use crate::read::{cell_at, count_at, summary_at};
+use crate::read::{count_at, summary_at};
 use crate::store::Store;
 use kinds::Kind;
 
