@@ -79,9 +79,8 @@ module _ {E A S : Type 0} (k : Meaning E A S) (flip : Bool) (a b : List (Cell E 
 
 -- ---- the levels
 
-module _ {E A S : Type 0} (k : Meaning E A S) (flip : Bool) (a : List (Cell E S)) (sound : Sound k a) (top : ℕ) (top_live : Live a top)
-    (L : Tree E) (e : E) (balanced : Balanced L) (linkable : Linkable k L e (seen flip a top)) (light : weight L ≤ Δ * weight (seen flip a top))
-    (path : List ℕ) (foot : ℕ) (sunk : Sunk k flip a L top path foot) where
+module _ {E A S : Type 0} {k : Meaning E A S} {flip : Bool} {a : List (Cell E S)} {L : Tree E} {top : ℕ} {path : List ℕ} {foot : ℕ} (sunk : Sunk k flip a L top path foot)
+    (sound : Sound k a) (top_live : Live a top) (e : E) (balanced : Balanced L) (linkable : Linkable k L e (seen flip a top)) (light : weight L ≤ Δ * weight (seen flip a top)) where
   abbrev t : ℕ → Tree E
   t j = seen flip a (descent flip a top j)
 

@@ -16,6 +16,7 @@ use kinds::Kind;
 use links::{far_of, link};
 
 // A link, seen with the tree of `left` on the left.
+// `make_facing` of links is its like: one function for both would take the call as a closure, and state its contract anew.
 pub fn link_facing<K: Kind>(
     store: &mut Store<'_, K>,
     flip: bool,
@@ -51,7 +52,7 @@ pub fn regrow_one<K: Kind>(store: &mut Store<'_, K>, flip: bool, low: u32, i: u3
 }
 
 // Up from `low` through the cells that a walk passed, the last first.
-// A loop of its own beside `climb` of links: one loop over a step would ask for the invariants of both as parameters.
+// `climb` of links is its like: one loop for both would take the step as a closure, and its invariant as a parameter.
 pub fn regrow<K: Kind>(store: &mut Store<'_, K>, flip: bool, low: u32, passed: &[u32]) -> u32
     requires { Growable (K.meaning store.old.kind.now) flip store.old.cells.now store.old.pool low passed.now }
     ensures same { SameLoan store.old store.new }
