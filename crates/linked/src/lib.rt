@@ -6,7 +6,7 @@ ghost use Rattle.std.specs.Prelude.{◌≡◌, ◌*◌, ◌≤◌, length};
 ghost use Rattle.faults.specs.Limits.{limit};
 ghost use Rattle.kinds.specs.Kinds.{Lawful};
 
-use cells::{Cell, Item, NONE, free, make, release, start};
+use cells::{Cell, Item, NONE, Store};
 use kinds::Kind;
 use links::link;
 
@@ -21,10 +21,10 @@ pub fn come_and_gone<K: Kind>(
     requires size { (100 ≤ length cells.old) × (length cells.old ≤ 65535) }
     ensures { result ≡ length cells.old }
 {
-    let mut pool = start(kind, cells);
+    let mut store = Store::start(kind, cells);
     let item = Item::of(kind, element);
-    let one = make(kind, cells, &mut pool, NONE, item, NONE);
-    let two = link(kind, cells, &mut pool, one, item, NONE);
-    release(kind, cells, &mut pool, two);
-    free(kind, cells, &pool)
+    let one = store.make(NONE, item, NONE);
+    let two = link(&mut store, one, item, NONE);
+    store.release(two);
+    store.free()
 }
