@@ -33,7 +33,7 @@ use Rattle.splits.proofs.Merges.{behind_stays}
 use Rattle.splits.proofs.LooseParts.{loose_one}
 use Rattle.edits.proofs.Roots.{both_counts, owned_balanced, owned_lawful}
 
-module _ {E A S : Type 0} (k : Meaning E A S) (laws : Laws k) (a : List (Cell E S)) (p : Pool) (root place new : ℕ)
+module _ {E A S : Type 0} {k : Meaning E A S} (laws : Laws k) {a : List (Cell E S)} {p : Pool} {root new : ℕ} (place : ℕ)
     (owns : Owns k a p [] (root ∷ new ∷ []) (2 ^ 16)) (few : length (list a root) + length (list a new) ≤ element_limit)
     (short : extent_of k (list a root) + extent_of k (list a new) ≤ limit) (some : edit_takes ≤ p.free) where
   abbrev T : Tree E
@@ -52,16 +52,16 @@ module _ {E A S : Type 0} (k : Meaning E A S) (laws : Laws k) (a : List (Cell E 
   new_owned = owns.kept new (let h = hit_same new in omega arith)
 
   T-balanced : Balanced T
-  T-balanced = owned_balanced k a p owns.rest owns.arena root root_owned
+  T-balanced = owned_balanced owns.arena root root_owned
 
   N-balanced : Balanced N
-  N-balanced = owned_balanced k a p owns.rest owns.arena new new_owned
+  N-balanced = owned_balanced owns.arena new new_owned
 
   T-lawful : AllByRecursion (Lawful k) (elements T)
-  T-lawful = owned_lawful k a p owns.rest owns.arena root root_owned
+  T-lawful = owned_lawful owns.arena root root_owned
 
   N-lawful : AllByRecursion (Lawful k) (elements N)
-  N-lawful = owned_lawful k a p owns.rest owns.arena new new_owned
+  N-lawful = owned_lawful owns.arena new new_owned
 
   counts : count T + count N ≤ element_limit
   counts = omega (arith, few, count_length T, count_length N)
@@ -85,7 +85,7 @@ module _ {E A S : Type 0} (k : Meaning E A S) (laws : Laws k) (a : List (Cell E 
   pub part_some : parted_cost (shape k) T place ≤ p.free
   part_some = omega (arith, costs, some)
 
-  module _ (b : List (Cell E S)) (q : Pool) (split : Split E S) (one : Splits k a p [] b q split s (parted_cost (shape k) T place)) where
+  module _ {b : List (Cell E S)} {q : Pool} {split : Split E S} (one : Splits k a p [] b q split s (parted_cost (shape k) T place)) where
     abbrev loose : List ℕ
     loose = loose_roots split.loose
 
@@ -118,7 +118,7 @@ module _ {E A S : Type 0} (k : Meaning E A S) (laws : Laws k) (a : List (Cell E 
     pub merge_some : merge_cost (shape k) (tree b split.before) (tree b new) ≤ q.free
     merge_some = omega (arith, merge_cost_is_here, costs, some, moved_b.free)
 
-    module _ (c : List (Cell E S)) (o : Pool) (front : ℕ)
+    module _ {c : List (Cell E S)} {o : Pool} {front : ℕ}
         (two : Grows k false b q (split.before ∷ []) c o front (merge (shape k) (tree b split.before) (tree b new)) (merge_cost (shape k) (tree b split.before) (tree b new))) where
       moved_c : Moved k b q (loose ++ owns.rest) c o (front ∷ []) (merge_cost (shape k) (tree b split.before) (tree b new))
       moved_c = two.each (loose ++ owns.rest) moved_b.arena
@@ -157,7 +157,7 @@ module _ {E A S : Type 0} (k : Meaning E A S) (laws : Laws k) (a : List (Cell E 
       pub join_some : joined_cost (tree c front) (behind c split.loose) ≤ o.free
       join_some = omega (arith, merge_cost_is_here, join_cost_is, costs, some, moved_b.free, moved_c.free)
 
-      module _ (d : List (Cell E S)) (w : Pool) (r : ℕ)
+      module _ {d : List (Cell E S)} {w : Pool} {r : ℕ}
           (three : Grows k false c o (front ∷ loose) d w r (joined (tree c front) (behind c split.loose)) (joined_cost (tree c front) (behind c split.loose))) where
         moves_c : Moves k a p [] c o (front ∷ loose) (parted_cost (shape k) T place + merge_cost (shape k) (tree b split.before) (tree b new))
         moves_c = moves_then k a p [] b q (split.before ∷ loose) (parted_cost (shape k) T place) one.each (split.before ∷ []) loose (λ i. omega arith)

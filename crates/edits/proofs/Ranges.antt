@@ -30,9 +30,9 @@ use Rattle.splits.specs.Splitting.{behind, loose_roots, Grows, Splits}
 use Rattle.edits.specs.Edits.{edit_takes, copy_takes, list, Makes, Cuts}
 use Rattle.splits.proofs.Places.{same_taken, same_without, back_lawful, parted_extents, rest_extents}
 use Rattle.splits.proofs.Merges.{behind_stays}
-use Rattle.edits.proofs.Roots.{both_counts, owned_balanced, owned_lawful, owned_short, owned_counts}
+use Rattle.edits.proofs.Roots.{both_counts, owned_balanced, owned_lawful, owned_short, top_count}
 
-module _ {E A S : Type 0} (k : Meaning E A S) (laws : Laws k) (a : List (Cell E S)) (p : Pool) (root from len : ℕ)
+module _ {E A S : Type 0} {k : Meaning E A S} (laws : Laws k) {a : List (Cell E S)} {p : Pool} {root : ℕ} (from len : ℕ)
     (owns : Owns k a p [] (root ∷ []) (2 ^ 16)) (few : length (list a root) ≤ element_limit) where
   abbrev T : Tree E
   T = tree a root
@@ -48,10 +48,10 @@ module _ {E A S : Type 0} (k : Meaning E A S) (laws : Laws k) (a : List (Cell E 
   root_owned = owns.kept root (let h = hit_same root in omega arith)
 
   T-balanced : Balanced T
-  T-balanced = owned_balanced k a p owns.rest owns.arena root root_owned
+  T-balanced = owned_balanced owns.arena root root_owned
 
   T-lawful : AllByRecursion (Lawful k) (elements T)
-  T-lawful = owned_lawful k a p owns.rest owns.arena root root_owned
+  T-lawful = owned_lawful owns.arena root root_owned
 
   T-few : count T ≤ element_limit
   T-few = omega (arith, few, count_length T)
@@ -63,7 +63,7 @@ module _ {E A S : Type 0} (k : Meaning E A S) (laws : Laws k) (a : List (Cell E 
   end_sound = parted_rest_sound (shape k) s.rest len sound.rest_balanced
 
   short : span (shape k) s.before + extents (shape k) (listed s.rest) ≤ limit
-  short = omega (arith, parted_extents k laws T from T-lawful, owned_short k a p owns.rest owns.arena root root_owned)
+  short = omega (arith, parted_extents k laws T from T-lawful, owned_short owns.arena root root_owned)
 
   end_short : extents (shape k) (listed z.rest) ≤ extents (shape k) (listed s.rest)
   end_short =
@@ -87,7 +87,7 @@ module _ {E A S : Type 0} (k : Meaning E A S) (laws : Laws k) (a : List (Cell E 
   pub first_some : copy_takes ≤ p.free → parted_cost (shape k) T from ≤ p.free
   first_some some = omega (arith, copy_costs)
 
-  module _ (b : List (Cell E S)) (q : Pool) (first : Split E S) (one : Splits k a p [] b q first s (parted_cost (shape k) T from)) where
+  module _ {b : List (Cell E S)} {q : Pool} {first : Split E S} (one : Splits k a p [] b q first s (parted_cost (shape k) T from)) where
     abbrev loose : List ℕ
     loose = loose_roots first.loose
 
@@ -102,7 +102,7 @@ module _ {E A S : Type 0} (k : Meaning E A S) (laws : Laws k) (a : List (Cell E 
     pub before_few : cell_count b first.before ≤ most
     before_few = omega (
       arith,
-      owned_counts k b q (first.before ∷ (loose ++ owns.rest)) before_arena first.before (let h = hit_same first.before in omega arith),
+      top_count before_arena,
       count_length (tree b first.before),
       ap count one.before_is,
       sound.before_few,
@@ -131,7 +131,7 @@ module _ {E A S : Type 0} (k : Meaning E A S) (laws : Laws k) (a : List (Cell E 
       pub second_some : copy_takes ≤ p.free → parted_rest_cost (shape k) (behind c first.loose) len ≤ o.free
       second_some some = omega (arith, cost_c, copy_costs, moved_b.free, moved_c.free)
 
-      module _ (d : List (Cell E S)) (w : Pool) (second : Split E S)
+      module _ {d : List (Cell E S)} {w : Pool} {second : Split E S}
           (three : Splits k c o loose d w second (parted_rest (shape k) (behind c first.loose) len) (parted_rest_cost (shape k) (behind c first.loose) len)) where
         abbrev last : List ℕ
         last = loose_roots second.loose
@@ -195,7 +195,7 @@ module _ {E A S : Type 0} (k : Meaning E A S) (laws : Laws k) (a : List (Cell E 
     pub rest_some : copy_takes ≤ p.free → parted_rest_cost (shape k) (behind b first.loose) len ≤ q.free
     rest_some some = omega (arith, cost_b, copy_costs, moved_b.free)
 
-    module _ (c : List (Cell E S)) (o : Pool) (second : Split E S)
+    module _ {c : List (Cell E S)} {o : Pool} {second : Split E S}
         (two : Splits k b q loose c o second (parted_rest (shape k) (behind b first.loose) len) (parted_rest_cost (shape k) (behind b first.loose) len)) where
       abbrev end : List ℕ
       end = loose_roots second.loose
@@ -228,7 +228,7 @@ module _ {E A S : Type 0} (k : Meaning E A S) (laws : Laws k) (a : List (Cell E 
       pub join_some : edit_takes ≤ p.free → joined_cost (tree c first.before) (behind c second.loose) ≤ o.free
       join_some some = omega (arith, cost_b, joined_is, cut_costs, moved_b.free, moved_end.free)
 
-      module _ (d : List (Cell E S)) (w : Pool) (left : ℕ)
+      module _ {d : List (Cell E S)} {w : Pool} {left : ℕ}
           (three : Grows k false c o (first.before ∷ end) d w left (joined (tree c first.before) (behind c second.loose)) (joined_cost (tree c first.before) (behind c second.loose))) where
         moves_c : Moves k a p [] c o (first.before ∷ second.before ∷ end) (parted_cost (shape k) T from + parted_rest_cost (shape k) (behind b first.loose) len)
         moves_c = moves_then k a p [] b q (first.before ∷ loose) (parted_cost (shape k) T from) one.each loose (first.before ∷ []) (λ i. omega arith)

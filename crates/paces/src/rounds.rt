@@ -9,8 +9,9 @@ ghost use Rattle.cells.specs.Cells.{shape, tree, cell_count, Live, Sound};
 ghost use Rattle.splits.specs.Owning.{Owns};
 ghost use Rattle.edits.specs.Edits.{edit_takes, list};
 ghost use Rattle.paces.specs.Rests.{Rests};
+ghost use Rattle.paces.specs.Sums.{offsets, lengths};
 
-use crate::places::{place_in, stepped};
+use crate::places::Places;
 use cells::{Cell, Pool, count_at, release};
 use edits::{cut, put};
 use kinds::Kind;
@@ -73,11 +74,10 @@ pub(crate) fn puts<K: Kind>(
     ensures { Rests (K.meaning kind.now) cells.old pool.old cells.new pool.new }
 {
     let end = width_at(kind, cells, root);
-    let mut state = 1;
+    let mut places = Places::new();
     let mut sum = 0u64;
     for _ in 0..rounds {
-        state = stepped(state);
-        let n = put_once(kind, cells, pool, root, place_in(state, end), clip);
+        let n = put_once(kind, cells, pool, root, places.next(end), clip);
         sum = sum.wrapping_add(n as u64);
     }
     sum
@@ -96,18 +96,18 @@ pub(crate) fn cuts<K: Kind>(
     ensures { Rests (K.meaning kind.now) cells.old pool.old cells.new pool.new }
 {
     let end = width_at(kind, cells, root);
-    let mut state = 1;
+    let mut places = Places::new();
     let mut sum = 0u64;
     for _ in 0..rounds {
-        state = stepped(state);
-        let from = place_in(state, end);
-        state = stepped(state);
-        let n = cut_once(kind, cells, pool, root, from, place_in(state, end - from));
+        let from = places.next(end);
+        let len = places.next(end - from);
+        let n = cut_once(kind, cells, pool, root, from, len);
         sum = sum.wrapping_add(n as u64);
     }
     sum
 }
 
+// Reads at a place, and adds up the offsets.
 pub(crate) fn reads<K: Kind>(
     kind: &K,
     cells: &[Cell<K::Element, K::Summary>],
@@ -117,21 +117,20 @@ pub(crate) fn reads<K: Kind>(
     requires sound { Sound (K.meaning kind.now) cells.now }
     requires live { Live cells.now root }
     requires few { cell_count cells.now root ≤ most }
+    requires some { 1 ≤ span (shape (K.meaning kind.now)) (tree cells.now root) }
+    ensures { result ≡ offsets (K.meaning kind.now) (list cells.now root) rounds }
 {
-    let end = width_at(kind, cells, root);
-    let mut state = 1;
+    let end = width_at(kind, cells, root) - 1;
+    let mut places = Places::new();
     let mut sum = 0u64;
-    if end == 0 {
-        return sum;
-    }
     for _ in 0..rounds {
-        state = stepped(state);
-        let found = read(kind, cells, root, place_in(state, end - 1));
+        let found = read(kind, cells, root, places.next(end));
         sum = sum.wrapping_add(found.offset as u64);
     }
     sum
 }
 
+// Asks for the overview from a place to one behind it, and adds up their lengths.
 pub(crate) fn overviews<K: Kind>(
     kind: &K,
     cells: &[Cell<K::Element, K::Summary>],
@@ -140,18 +139,15 @@ pub(crate) fn overviews<K: Kind>(
 ) -> u64
     requires sound { Sound (K.meaning kind.now) cells.now }
     requires live { Live cells.now root }
+    requires some { 1 ≤ span (shape (K.meaning kind.now)) (tree cells.now root) }
+    ensures { result ≡ lengths (K.meaning kind.now) (list cells.now root) rounds }
 {
-    let end = width_at(kind, cells, root);
-    let mut state = 1;
+    let end = width_at(kind, cells, root) - 1;
+    let mut places = Places::new();
     let mut sum = 0u64;
-    if end == 0 {
-        return sum;
-    }
     for _ in 0..rounds {
-        state = stepped(state);
-        let from = place_in(state, end - 1);
-        state = stepped(state);
-        let len = place_in(state, end - 1 - from) + 1;
+        let from = places.next(end);
+        let len = places.next(end - from) + 1;
         let s = overview(kind, cells, root, from, len);
         sum = sum.wrapping_add(kind.width(s) as u64);
     }

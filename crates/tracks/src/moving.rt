@@ -5,7 +5,7 @@ ghost use Rattle.flat.specs.Refusals.{element_limit};
 ghost use Rattle.edits.specs.Edits.{list, edit_takes};
 ghost use Rattle.tracks.specs.Moving.{not_taken, not_put, TakesOut, PutsIn, Declines};
 
-use crate::laying::no_room;
+use crate::laying::room;
 use cells::{Cell, Pool, count_at, release};
 use edits::{Removal, cut, put};
 use faults::SessionFault;
@@ -38,7 +38,7 @@ pub fn take_out<K: Kind>(
     }
     let free = pool.free;
     let r = cut(kind, cells, pool, root, from, len);
-    if let Some(fault) = no_room(0, count_at(cells, r.left), free) {
+    if let Err(fault) = room(0, count_at(cells, r.left), free) {
         release(kind, cells, pool, r.left);
         release(kind, cells, pool, r.taken);
         return Err(fault);
@@ -72,12 +72,10 @@ pub fn put_in<K: Kind>(
     }
     let extent = end + width_at(kind, cells, clip);
     let elements = count_at(cells, root).saturating_add(more);
-    if let Some(fault) = no_room(extent, elements, 2048) {
-        return Err(fault);
-    }
+    room(extent, elements, 2048)?;
     let free = pool.free;
     let r = put(kind, cells, pool, root, place, clip);
-    if let Some(fault) = no_room(0, count_at(cells, r), free) {
+    if let Err(fault) = room(0, count_at(cells, r), free) {
         release(kind, cells, pool, r);
         return Err(fault);
     }

@@ -5,31 +5,31 @@ use Rattle.edits.proofs.editing.copy.Goals as goal
 
 pub part-first-requires : goal.part-first-requires
 part-first-requires g c = record {
-  owns = first_owns (g.K.Kind.meaning c.args.kind.now) (g.K.Kind.laws c.args.kind.now) c.args.cells.now c.args.pool.now c.args.root c.args.from c.args.len c.requires.owns c.requires.few;
-  few = first_few (g.K.Kind.meaning c.args.kind.now) (g.K.Kind.laws c.args.kind.now) c.args.cells.now c.args.pool.now c.args.root c.args.from c.args.len c.requires.owns c.requires.few;
-  some = first_some (g.K.Kind.meaning c.args.kind.now) (g.K.Kind.laws c.args.kind.now) c.args.cells.now c.args.pool.now c.args.root c.args.from c.args.len c.requires.owns c.requires.few c.requires.some;
+  owns = first_owns (g.K.Kind.laws c.args.kind.now) c.args.from c.args.len c.requires.owns c.requires.few;
+  few = first_few (g.K.Kind.laws c.args.kind.now) c.args.from c.args.len c.requires.owns c.requires.few;
+  some = first_some (g.K.Kind.laws c.args.kind.now) c.args.from c.args.len c.requires.owns c.requires.few c.requires.some;
 }
 
 pub release-requires : goal.release-requires
 release-requires g c = record {
-  owned = (loose_roots c.part-first.result.loose ++ c.requires.owns.rest, before_arena (g.K.Kind.meaning c.args.kind.now) (g.K.Kind.laws c.args.kind.now) c.args.cells.now c.args.pool.now c.args.root c.args.from c.args.len c.requires.owns c.requires.few c.part-first.new.cells c.part-first.new.pool c.part-first.result c.part-first.ensures.splits);
-  few = before_few (g.K.Kind.meaning c.args.kind.now) (g.K.Kind.laws c.args.kind.now) c.args.cells.now c.args.pool.now c.args.root c.args.from c.args.len c.requires.owns c.requires.few c.part-first.new.cells c.part-first.new.pool c.part-first.result c.part-first.ensures.splits;
+  owned = (loose_roots c.part-first.result.loose ++ c.requires.owns.rest, before_arena (g.K.Kind.laws c.args.kind.now) c.args.from c.args.len c.requires.owns c.requires.few c.part-first.ensures.splits);
+  few = before_few (g.K.Kind.laws c.args.kind.now) c.args.from c.args.len c.requires.owns c.requires.few c.part-first.ensures.splits;
 }
 
 pub part_rest-second-requires : goal.part_rest-second-requires
 part_rest-second-requires g c = record {
-  owns = second_owns (g.K.Kind.meaning c.args.kind.now) (g.K.Kind.laws c.args.kind.now) c.args.cells.now c.args.pool.now c.args.root c.args.from c.args.len c.requires.owns c.requires.few c.part-first.new.cells c.part-first.new.pool c.part-first.result c.part-first.ensures.splits c.release.new.cells c.release.new.pool c.release.ensures;
+  owns = second_owns (g.K.Kind.laws c.args.kind.now) c.args.from c.args.len c.requires.owns c.requires.few c.part-first.ensures.splits c.release.new.cells c.release.new.pool c.release.ensures;
   tied = c.part-first.ensures.splits.tied;
-  few = second_few (g.K.Kind.meaning c.args.kind.now) (g.K.Kind.laws c.args.kind.now) c.args.cells.now c.args.pool.now c.args.root c.args.from c.args.len c.requires.owns c.requires.few c.part-first.new.cells c.part-first.new.pool c.part-first.result c.part-first.ensures.splits c.release.new.cells c.release.new.pool c.release.ensures;
-  short = second_short (g.K.Kind.meaning c.args.kind.now) (g.K.Kind.laws c.args.kind.now) c.args.cells.now c.args.pool.now c.args.root c.args.from c.args.len c.requires.owns c.requires.few c.part-first.new.cells c.part-first.new.pool c.part-first.result c.part-first.ensures.splits c.release.new.cells c.release.new.pool c.release.ensures;
-  some = second_some (g.K.Kind.meaning c.args.kind.now) (g.K.Kind.laws c.args.kind.now) c.args.cells.now c.args.pool.now c.args.root c.args.from c.args.len c.requires.owns c.requires.few c.part-first.new.cells c.part-first.new.pool c.part-first.result c.part-first.ensures.splits c.release.new.cells c.release.new.pool c.release.ensures c.requires.some;
+  few = second_few (g.K.Kind.laws c.args.kind.now) c.args.from c.args.len c.requires.owns c.requires.few c.part-first.ensures.splits c.release.new.cells c.release.new.pool c.release.ensures;
+  short = second_short (g.K.Kind.laws c.args.kind.now) c.args.from c.args.len c.requires.owns c.requires.few c.part-first.ensures.splits c.release.new.cells c.release.new.pool c.release.ensures;
+  some = second_some (g.K.Kind.laws c.args.kind.now) c.args.from c.args.len c.requires.owns c.requires.few c.part-first.ensures.splits c.release.new.cells c.release.new.pool c.release.ensures c.requires.some;
 }
 
 pub let_go-requires : goal.let_go-requires
 let_go-requires g c = record {
-  owns = last_owns (g.K.Kind.meaning c.args.kind.now) (g.K.Kind.laws c.args.kind.now) c.args.cells.now c.args.pool.now c.args.root c.args.from c.args.len c.requires.owns c.requires.few c.part-first.new.cells c.part-first.new.pool c.part-first.result c.part-first.ensures.splits c.release.new.cells c.release.new.pool c.release.ensures c.part_rest-second.new.cells c.part_rest-second.new.pool c.part_rest-second.result c.part_rest-second.ensures.splits;
-  few = last_few (g.K.Kind.meaning c.args.kind.now) (g.K.Kind.laws c.args.kind.now) c.args.cells.now c.args.pool.now c.args.root c.args.from c.args.len c.requires.owns c.requires.few c.part-first.new.cells c.part-first.new.pool c.part-first.result c.part-first.ensures.splits c.release.new.cells c.release.new.pool c.release.ensures c.part_rest-second.new.cells c.part_rest-second.new.pool c.part_rest-second.result c.part_rest-second.ensures.splits;
+  owns = last_owns (g.K.Kind.laws c.args.kind.now) c.args.from c.args.len c.requires.owns c.requires.few c.part-first.ensures.splits c.release.new.cells c.release.new.pool c.release.ensures c.part_rest-second.ensures.splits;
+  few = last_few (g.K.Kind.laws c.args.kind.now) c.args.from c.args.len c.requires.owns c.requires.few c.part-first.ensures.splits c.release.new.cells c.release.new.pool c.release.ensures c.part_rest-second.ensures.splits;
 }
 
 pub returns : goal.returns
-returns g c = copies (g.K.Kind.meaning c.args.kind.now) (g.K.Kind.laws c.args.kind.now) c.args.cells.now c.args.pool.now c.args.root c.args.from c.args.len c.requires.owns c.requires.few c.part-first.new.cells c.part-first.new.pool c.part-first.result c.part-first.ensures.splits c.release.new.cells c.release.new.pool c.release.ensures c.part_rest-second.new.cells c.part_rest-second.new.pool c.part_rest-second.result c.part_rest-second.ensures.splits c.let_go.new.cells c.let_go.new.pool c.let_go.ensures
+returns g c = copies (g.K.Kind.laws c.args.kind.now) c.args.from c.args.len c.requires.owns c.requires.few c.part-first.ensures.splits c.release.new.cells c.release.new.pool c.release.ensures c.part_rest-second.ensures.splits c.let_go.new.cells c.let_go.new.pool c.let_go.ensures

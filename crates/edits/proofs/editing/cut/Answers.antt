@@ -4,28 +4,28 @@ use Rattle.edits.proofs.editing.cut.Goals as goal
 
 pub part-first-requires : goal.part-first-requires
 part-first-requires g c = record {
-  owns = first_owns (g.K.Kind.meaning c.args.kind.now) (g.K.Kind.laws c.args.kind.now) c.args.cells.now c.args.pool.now c.args.root c.args.from c.args.len c.requires.owns c.requires.few;
-  few = first_few (g.K.Kind.meaning c.args.kind.now) (g.K.Kind.laws c.args.kind.now) c.args.cells.now c.args.pool.now c.args.root c.args.from c.args.len c.requires.owns c.requires.few;
-  some = first_some (g.K.Kind.meaning c.args.kind.now) (g.K.Kind.laws c.args.kind.now) c.args.cells.now c.args.pool.now c.args.root c.args.from c.args.len c.requires.owns c.requires.few (omega (arith, c.requires.some));
+  owns = first_owns (g.K.Kind.laws c.args.kind.now) c.args.from c.args.len c.requires.owns c.requires.few;
+  few = first_few (g.K.Kind.laws c.args.kind.now) c.args.from c.args.len c.requires.owns c.requires.few;
+  some = first_some (g.K.Kind.laws c.args.kind.now) c.args.from c.args.len c.requires.owns c.requires.few (omega (arith, c.requires.some));
 }
 
 pub part_rest-second-requires : goal.part_rest-second-requires
 part_rest-second-requires g c = record {
-  owns = rest_owns (g.K.Kind.meaning c.args.kind.now) (g.K.Kind.laws c.args.kind.now) c.args.cells.now c.args.pool.now c.args.root c.args.from c.args.len c.requires.owns c.requires.few c.part-first.new.cells c.part-first.new.pool c.part-first.result c.part-first.ensures.splits;
+  owns = rest_owns (g.K.Kind.laws c.args.kind.now) c.args.from c.args.len c.requires.owns c.requires.few c.part-first.ensures.splits;
   tied = c.part-first.ensures.splits.tied;
-  few = rest_few (g.K.Kind.meaning c.args.kind.now) (g.K.Kind.laws c.args.kind.now) c.args.cells.now c.args.pool.now c.args.root c.args.from c.args.len c.requires.owns c.requires.few c.part-first.new.cells c.part-first.new.pool c.part-first.result c.part-first.ensures.splits;
-  short = rest_short (g.K.Kind.meaning c.args.kind.now) (g.K.Kind.laws c.args.kind.now) c.args.cells.now c.args.pool.now c.args.root c.args.from c.args.len c.requires.owns c.requires.few c.part-first.new.cells c.part-first.new.pool c.part-first.result c.part-first.ensures.splits;
-  some = rest_some (g.K.Kind.meaning c.args.kind.now) (g.K.Kind.laws c.args.kind.now) c.args.cells.now c.args.pool.now c.args.root c.args.from c.args.len c.requires.owns c.requires.few c.part-first.new.cells c.part-first.new.pool c.part-first.result c.part-first.ensures.splits (omega (arith, c.requires.some));
+  few = rest_few (g.K.Kind.laws c.args.kind.now) c.args.from c.args.len c.requires.owns c.requires.few c.part-first.ensures.splits;
+  short = rest_short (g.K.Kind.laws c.args.kind.now) c.args.from c.args.len c.requires.owns c.requires.few c.part-first.ensures.splits;
+  some = rest_some (g.K.Kind.laws c.args.kind.now) c.args.from c.args.len c.requires.owns c.requires.few c.part-first.ensures.splits (omega (arith, c.requires.some));
 }
 
 pub join-left-requires : goal.join-left-requires
 join-left-requires g c = record {
-  owns = join_owns (g.K.Kind.meaning c.args.kind.now) (g.K.Kind.laws c.args.kind.now) c.args.cells.now c.args.pool.now c.args.root c.args.from c.args.len c.requires.owns c.requires.few c.part-first.new.cells c.part-first.new.pool c.part-first.result c.part-first.ensures.splits c.part_rest-second.new.cells c.part_rest-second.new.pool c.part_rest-second.result c.part_rest-second.ensures.splits;
+  owns = join_owns (g.K.Kind.laws c.args.kind.now) c.args.from c.args.len c.requires.owns c.requires.few c.part-first.ensures.splits c.part_rest-second.ensures.splits;
   tied = c.part_rest-second.ensures.splits.tied;
-  few = join_few (g.K.Kind.meaning c.args.kind.now) (g.K.Kind.laws c.args.kind.now) c.args.cells.now c.args.pool.now c.args.root c.args.from c.args.len c.requires.owns c.requires.few c.part-first.new.cells c.part-first.new.pool c.part-first.result c.part-first.ensures.splits c.part_rest-second.new.cells c.part_rest-second.new.pool c.part_rest-second.result c.part_rest-second.ensures.splits;
-  short = join_short (g.K.Kind.meaning c.args.kind.now) (g.K.Kind.laws c.args.kind.now) c.args.cells.now c.args.pool.now c.args.root c.args.from c.args.len c.requires.owns c.requires.few c.part-first.new.cells c.part-first.new.pool c.part-first.result c.part-first.ensures.splits c.part_rest-second.new.cells c.part_rest-second.new.pool c.part_rest-second.result c.part_rest-second.ensures.splits;
-  some = join_some (g.K.Kind.meaning c.args.kind.now) (g.K.Kind.laws c.args.kind.now) c.args.cells.now c.args.pool.now c.args.root c.args.from c.args.len c.requires.owns c.requires.few c.part-first.new.cells c.part-first.new.pool c.part-first.result c.part-first.ensures.splits c.part_rest-second.new.cells c.part_rest-second.new.pool c.part_rest-second.result c.part_rest-second.ensures.splits c.requires.some;
+  few = join_few (g.K.Kind.laws c.args.kind.now) c.args.from c.args.len c.requires.owns c.requires.few c.part-first.ensures.splits c.part_rest-second.ensures.splits;
+  short = join_short (g.K.Kind.laws c.args.kind.now) c.args.from c.args.len c.requires.owns c.requires.few c.part-first.ensures.splits c.part_rest-second.ensures.splits;
+  some = join_some (g.K.Kind.laws c.args.kind.now) c.args.from c.args.len c.requires.owns c.requires.few c.part-first.ensures.splits c.part_rest-second.ensures.splits c.requires.some;
 }
 
 pub returns : goal.returns
-returns g c = cuts (g.K.Kind.meaning c.args.kind.now) (g.K.Kind.laws c.args.kind.now) c.args.cells.now c.args.pool.now c.args.root c.args.from c.args.len c.requires.owns c.requires.few c.part-first.new.cells c.part-first.new.pool c.part-first.result c.part-first.ensures.splits c.part_rest-second.new.cells c.part_rest-second.new.pool c.part_rest-second.result c.part_rest-second.ensures.splits c.join-left.new.cells c.join-left.new.pool c.join-left.result c.join-left.ensures.grows
+returns g c = cuts (g.K.Kind.laws c.args.kind.now) c.args.from c.args.len c.requires.owns c.requires.few c.part-first.ensures.splits c.part_rest-second.ensures.splits c.join-left.ensures.grows

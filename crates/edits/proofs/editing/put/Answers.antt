@@ -3,27 +3,27 @@ use Rattle.edits.proofs.editing.put.Goals as goal
 
 pub part-split-requires : goal.part-split-requires
 part-split-requires g c = record {
-  owns = part_owns (g.K.Kind.meaning c.args.kind.now) (g.K.Kind.laws c.args.kind.now) c.args.cells.now c.args.pool.now c.args.root c.args.place c.args.new c.requires.owns c.requires.few c.requires.short c.requires.some;
-  few = part_few (g.K.Kind.meaning c.args.kind.now) (g.K.Kind.laws c.args.kind.now) c.args.cells.now c.args.pool.now c.args.root c.args.place c.args.new c.requires.owns c.requires.few c.requires.short c.requires.some;
-  some = part_some (g.K.Kind.meaning c.args.kind.now) (g.K.Kind.laws c.args.kind.now) c.args.cells.now c.args.pool.now c.args.root c.args.place c.args.new c.requires.owns c.requires.few c.requires.short c.requires.some;
+  owns = part_owns (g.K.Kind.laws c.args.kind.now) c.args.place c.requires.owns c.requires.few c.requires.short c.requires.some;
+  few = part_few (g.K.Kind.laws c.args.kind.now) c.args.place c.requires.owns c.requires.few c.requires.short c.requires.some;
+  some = part_some (g.K.Kind.laws c.args.kind.now) c.args.place c.requires.owns c.requires.few c.requires.short c.requires.some;
 }
 
 pub merge-front-requires : goal.merge-front-requires
 merge-front-requires g c = record {
-  owns = merge_owns (g.K.Kind.meaning c.args.kind.now) (g.K.Kind.laws c.args.kind.now) c.args.cells.now c.args.pool.now c.args.root c.args.place c.args.new c.requires.owns c.requires.few c.requires.short c.requires.some c.part-split.new.cells c.part-split.new.pool c.part-split.result c.part-split.ensures.splits;
-  few = merge_few (g.K.Kind.meaning c.args.kind.now) (g.K.Kind.laws c.args.kind.now) c.args.cells.now c.args.pool.now c.args.root c.args.place c.args.new c.requires.owns c.requires.few c.requires.short c.requires.some c.part-split.new.cells c.part-split.new.pool c.part-split.result c.part-split.ensures.splits;
-  short = merge_short (g.K.Kind.meaning c.args.kind.now) (g.K.Kind.laws c.args.kind.now) c.args.cells.now c.args.pool.now c.args.root c.args.place c.args.new c.requires.owns c.requires.few c.requires.short c.requires.some c.part-split.new.cells c.part-split.new.pool c.part-split.result c.part-split.ensures.splits;
-  some = merge_some (g.K.Kind.meaning c.args.kind.now) (g.K.Kind.laws c.args.kind.now) c.args.cells.now c.args.pool.now c.args.root c.args.place c.args.new c.requires.owns c.requires.few c.requires.short c.requires.some c.part-split.new.cells c.part-split.new.pool c.part-split.result c.part-split.ensures.splits;
+  owns = merge_owns (g.K.Kind.laws c.args.kind.now) c.args.place c.requires.owns c.requires.few c.requires.short c.requires.some c.part-split.ensures.splits;
+  few = merge_few (g.K.Kind.laws c.args.kind.now) c.args.place c.requires.owns c.requires.few c.requires.short c.requires.some c.part-split.ensures.splits;
+  short = merge_short (g.K.Kind.laws c.args.kind.now) c.args.place c.requires.owns c.requires.few c.requires.short c.requires.some c.part-split.ensures.splits;
+  some = merge_some (g.K.Kind.laws c.args.kind.now) c.args.place c.requires.owns c.requires.few c.requires.short c.requires.some c.part-split.ensures.splits;
 }
 
 pub join-requires : goal.join-requires
 join-requires g c = record {
-  owns = join_owns (g.K.Kind.meaning c.args.kind.now) (g.K.Kind.laws c.args.kind.now) c.args.cells.now c.args.pool.now c.args.root c.args.place c.args.new c.requires.owns c.requires.few c.requires.short c.requires.some c.part-split.new.cells c.part-split.new.pool c.part-split.result c.part-split.ensures.splits c.merge-front.new.cells c.merge-front.new.pool c.merge-front.result c.merge-front.ensures.grows;
+  owns = join_owns (g.K.Kind.laws c.args.kind.now) c.args.place c.requires.owns c.requires.few c.requires.short c.requires.some c.part-split.ensures.splits c.merge-front.ensures.grows;
   tied = c.part-split.ensures.splits.tied;
-  few = join_few (g.K.Kind.meaning c.args.kind.now) (g.K.Kind.laws c.args.kind.now) c.args.cells.now c.args.pool.now c.args.root c.args.place c.args.new c.requires.owns c.requires.few c.requires.short c.requires.some c.part-split.new.cells c.part-split.new.pool c.part-split.result c.part-split.ensures.splits c.merge-front.new.cells c.merge-front.new.pool c.merge-front.result c.merge-front.ensures.grows;
-  short = join_short (g.K.Kind.meaning c.args.kind.now) (g.K.Kind.laws c.args.kind.now) c.args.cells.now c.args.pool.now c.args.root c.args.place c.args.new c.requires.owns c.requires.few c.requires.short c.requires.some c.part-split.new.cells c.part-split.new.pool c.part-split.result c.part-split.ensures.splits c.merge-front.new.cells c.merge-front.new.pool c.merge-front.result c.merge-front.ensures.grows;
-  some = join_some (g.K.Kind.meaning c.args.kind.now) (g.K.Kind.laws c.args.kind.now) c.args.cells.now c.args.pool.now c.args.root c.args.place c.args.new c.requires.owns c.requires.few c.requires.short c.requires.some c.part-split.new.cells c.part-split.new.pool c.part-split.result c.part-split.ensures.splits c.merge-front.new.cells c.merge-front.new.pool c.merge-front.result c.merge-front.ensures.grows;
+  few = join_few (g.K.Kind.laws c.args.kind.now) c.args.place c.requires.owns c.requires.few c.requires.short c.requires.some c.part-split.ensures.splits c.merge-front.ensures.grows;
+  short = join_short (g.K.Kind.laws c.args.kind.now) c.args.place c.requires.owns c.requires.few c.requires.short c.requires.some c.part-split.ensures.splits c.merge-front.ensures.grows;
+  some = join_some (g.K.Kind.laws c.args.kind.now) c.args.place c.requires.owns c.requires.few c.requires.short c.requires.some c.part-split.ensures.splits c.merge-front.ensures.grows;
 }
 
 pub returns : goal.returns
-returns g c = puts (g.K.Kind.meaning c.args.kind.now) (g.K.Kind.laws c.args.kind.now) c.args.cells.now c.args.pool.now c.args.root c.args.place c.args.new c.requires.owns c.requires.few c.requires.short c.requires.some c.part-split.new.cells c.part-split.new.pool c.part-split.result c.part-split.ensures.splits c.merge-front.new.cells c.merge-front.new.pool c.merge-front.result c.merge-front.ensures.grows c.join.new.cells c.join.new.pool c.join.result c.join.ensures.grows
+returns g c = puts (g.K.Kind.laws c.args.kind.now) c.args.place c.requires.owns c.requires.few c.requires.short c.requires.some c.part-split.ensures.splits c.merge-front.ensures.grows c.join.ensures.grows

@@ -4,10 +4,10 @@ use Rattle.edits.proofs.editing.single.Goals as goal
 
 pub make-requires : goal.make-requires
 make-requires g c = record {
-  owned = (c.requires.owns.rest, one_owned (g.K.Kind.meaning c.args.kind.now) (g.K.Kind.laws c.args.kind.now) c.args.cells.now c.args.pool.now c.requires.owns 4294967295 (lit≤ tt) (record { element = c.args.element; own = c.summary.result }));
-  fits = one_fits (g.K.Kind.meaning c.args.kind.now) (g.K.Kind.laws c.args.kind.now) c.args.cells.now c.args.pool.now c.requires.owns 4294967295 (lit≤ tt) (record { element = c.args.element; own = c.summary.result }) c.requires.lawful (c.summary.ensures c.requires.lawful);
+  owned = (c.requires.owns.rest, one_owned (g.K.Kind.laws c.args.kind.now) c.requires.owns 4294967295 (lit≤ tt) (record { element = c.args.element; own = c.summary.result }));
+  fits = one_fits (g.K.Kind.laws c.args.kind.now) c.requires.owns 4294967295 (lit≤ tt) (record { element = c.args.element; own = c.summary.result }) c.requires.lawful (c.summary.ensures c.requires.lawful);
   some = c.requires.some;
 }
 
 pub returns : goal.returns
-returns g c = makes_one (g.K.Kind.meaning c.args.kind.now) (g.K.Kind.laws c.args.kind.now) c.args.cells.now c.args.pool.now c.requires.owns 4294967295 (lit≤ tt) (record { element = c.args.element; own = c.summary.result }) c.make.new.cells c.make.new.pool c.make.result c.make.ensures.yields
+returns g c = makes_one (g.K.Kind.laws c.args.kind.now) c.requires.owns 4294967295 (lit≤ tt) (record { element = c.args.element; own = c.summary.result }) c.make.new.cells c.make.new.pool c.make.result c.make.ensures.yields
