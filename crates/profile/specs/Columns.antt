@@ -1,6 +1,6 @@
 -- An element seen in n columns of as equal extents as there can be.
 use Rattle.std.specs.Prelude.{◌≡◌, ℕ, ◌+◌, ◌-◌, ◌*◌, ◌/◌, ◌≤◌, List, map, length, take, drop, Ok, Err, Result}
-use Rattle.std.specs.List.{range_with_len}
+use Rattle.std.specs.List.{AllZip, range_with_len}
 use Rattle.faults.specs.declared.causes.Cause.{Cause}
 use Rattle.faults.specs.declared.session.SessionFault.{SessionFault}
 use Rattle.faults.specs.declared.session.SessionFault.TheVariants.{Unlawful}
@@ -16,6 +16,14 @@ carried (Err c) = Err (Unlawful c)
 -- where the column i begins, and the column before it ends
 abbrev pub edge : ℕ → ℕ → ℕ → ℕ
 edge extent n i = i * extent / n
+
+-- a call may be made at any two places of the extent, the first of them not behind the second
+abbrev pub TakesStretches : (ℕ → ℕ → Type 0) → ℕ → Type 0
+TakesStretches Takes extent = (from to : ℕ) → from ≤ to → to ≤ extent → Takes from to
+
+-- the values of n columns, each as it is given of the column's two edges
+pub record Columns {S : Type 0} (Gives : ℕ → ℕ → S → Type 0) (extent n : ℕ) (values : List S) : Type 0 where
+  pub each : AllZip (λ i s. Gives (edge extent n i) (edge extent n (i + 1)) s) (range_with_len 0 n) values
 
 module _ {E A S : Type 0} (k : Meaning E A S) where
   -- the summary of what was made, or why nothing was

@@ -1,19 +1,13 @@
--- A pile of layers: gain over a PCM reel and a mu-law reel joined.
-use Rattle.std.specs.Prelude.{ℕ, List, ◌++◌, map, ℤ, Some, None, Ok, Err, Option, Result}
+-- A pile of layers as audio.
+use Rattle.std.specs.Prelude.{ℕ, List, Some, None, Ok, Err, Option, Result}
 use Rattle.faults.specs.declared.reel.ReelFault.{ReelFault}
 use Rattle.faults.specs.declared.session.SessionFault.{SessionFault}
 use Rattle.audio.specs.Audio.{audio, clip_made}
 use Rattle.audio.specs.declared.levels.Levels.{Levels}
-use Rattle.reels.specs.Gain.{scaled}
-use Rattle.reels.specs.MuLaw.{decoded, mu_law_refusal}
-use Rattle.reels.specs.Pcm.{pairs, pcm_refusal}
-use Rattle.reels.specs.Samples.{cut}
+pub use Rattle.reels.specs.Piles.{pile, pile_refusal}
 use Rattle.profile.specs.Columns.{summary_of}
 use Rattle.profile.specs.declared.fault.SurveyFault.{SurveyFault}
 use Rattle.profile.specs.declared.fault.SurveyFault.TheVariants.{Reel, Session}
-
-abbrev pub pile : List ℕ → List ℕ → ℕ → List ℤ
-pile first second n = map (scaled n) (cut (pairs first ++ map decoded second))
 
 -- bytes that are no reel are refused before anything else is looked at
 abbrev pub over_reel : {X : Type 0} → Option ReelFault → Result X SurveyFault → Result X SurveyFault
@@ -28,4 +22,4 @@ surveyed (Err f) = Err (Session f)
 -- the levels of a stretch of the pile, or the first reason against them
 abbrev pub pile_levels : List ℕ → List ℕ → ℕ → ℕ → ℕ → Result Levels SurveyFault
 pile_levels first second n start frames =
-    over_reel (pcm_refusal first) (over_reel (mu_law_refusal second) (surveyed (summary_of (audio (pile first second n)) (clip_made (pile first second n) start frames))))
+    over_reel (pile_refusal first second) (surveyed (summary_of (audio (pile first second n)) (clip_made (pile first second n) start frames)))

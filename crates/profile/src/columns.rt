@@ -1,12 +1,12 @@
-ghost use Rattle.std.specs.Prelude.{◌≡◌, ◌<◌, ◌≤◌, length, Ok, MatchResult};
+ghost use Rattle.std.specs.Prelude.{◌≡◌, ◌<◌, ◌≤◌, map, length, Ok, MatchResult, IfOk};
+ghost use Rattle.std.specs.List.{range_with_len};
 ghost use Rattle.kinds.specs.Kinds.{Lawful};
-ghost use Rattle.profile.specs.Columns.{edge, between, carried, summary_of, Surveyed, NoSurvey};
-ghost use Rattle.profile.specs.declared.fault.SurveyFault.TheVariants.{NoMemory};
+ghost use Rattle.profile.specs.Columns.{edge, Columns, TakesStretches, between, column, carried, summary_of, Surveyed, NoSurvey};
 
 use crate::fault::SurveyFault;
 use faults::SessionFault;
 use kinds::Kind;
-use std::alloc::Global;
+use std::alloc::{AllocError, Global};
 
 // The summaries of an element's columns, and that of the whole.
 #[derive(Drop)]
@@ -25,7 +25,7 @@ pub fn measure<K: Kind>(k: &K, a: u32, b: u32) -> Result<K::Summary, SessionFaul
 
 // The element of two numbers, seen in n columns.
 pub fn survey_of<K: Kind>(
-    heap: Global,
+    alloc: Global,
     k: &K,
     a: u32,
     b: u32,
@@ -34,7 +34,7 @@ pub fn survey_of<K: Kind>(
     ensures { MatchResult result (λ s. (e : K.Element) × ((K.meaning k.now).made a b ≡ Ok e) × Surveyed (K.meaning k.now) ((K.meaning k.now).atoms e) n s.columns.items s.whole) (NoSurvey ((K.meaning k.now).made a b)) }
 {
     let e = element(k, a, b)?;
-    columns_of(heap, k, e, n)
+    Ok(survey_element(alloc, k, e, n)?)
 }
 
 fn element<K: Kind>(k: &K, a: u32, b: u32) -> Result<K::Element, SessionFault>
@@ -43,27 +43,53 @@ fn element<K: Kind>(k: &K, a: u32, b: u32) -> Result<K::Element, SessionFault>
     Ok(k.make(a, b)?)
 }
 
-fn columns_of<K: Kind>(
-    heap: Global,
+// The element, seen in n columns.
+fn survey_element<K: Kind>(
+    alloc: Global,
     k: &K,
     e: K::Element,
     n: u32,
-) -> Result<Survey<K::Summary>, SurveyFault>
+) -> Result<Survey<K::Summary>, AllocError>
     requires { Lawful (K.meaning k.now) e }
-    ensures { MatchResult result (λ s. Surveyed (K.meaning k.now) ((K.meaning k.now).atoms e) n s.columns.items s.whole) (λ f. f ≡ NoMemory) }
+    ensures { IfOk result (λ s. Surveyed (K.meaning k.now) ((K.meaning k.now).atoms e) n s.columns.items s.whole) }
 {
-    let extent = k.extent(e);
-    let mut columns = Vec::new(heap);
+    let columns = columns_of(alloc, k, e, n)?;
     let mut whole = k.empty();
-    let mut from = 0;
-    for i in 0..n {
-        let to = edge_of(extent, n, i + 1);
-        let s = stretch(k, e, from, to);
-        columns.push(s)?;
-        whole = k.join(whole, s);
-        from = to;
+    for s in &columns {
+        whole = k.join(whole, *s);
     }
     Ok(Survey { columns, whole })
+}
+
+// The summaries of the element's columns.
+fn columns_of<K: Kind>(
+    alloc: Global,
+    k: &K,
+    e: K::Element,
+    n: u32,
+) -> Result<Vec<K::Summary>, AllocError>
+    requires { Lawful (K.meaning k.now) e }
+    ensures { IfOk result (λ v. v.items ≡ map (column (K.meaning k.now) ((K.meaning k.now).atoms e) n) (range_with_len 0 n)) }
+{
+    in_columns(alloc, k.extent(e), n, |from, to| stretch(k, e, from, to))
+}
+
+// The values of n columns of an extent, as equal as there can be: `stretch` gives each, of where the column begins
+// and where it ends.
+pub fn in_columns<S: Drop, F: Fn(u32, u32) -> S>(
+    alloc: Global,
+    extent: u32,
+    n: u32,
+    stretch: F,
+) -> Result<Vec<S>, AllocError>
+    requires { TakesStretches (F.pre stretch) extent }
+    ensures { IfOk result (λ v. Columns (F.post stretch) extent n v.items) }
+{
+    let mut columns = Vec::new(alloc);
+    for i in 0..n {
+        columns.push(stretch(edge_of(extent, n, i), edge_of(extent, n, i + 1)))?;
+    }
+    Ok(columns)
 }
 
 // Where the column i begins.

@@ -12,6 +12,7 @@ pub enum SurveyFault {
     NoMemory,
 }
 
+// Each conversion is written out, since the clauses above name what `?` gives, and a derived one does not say it.
 impl From<ReelFault> for SurveyFault {
     ghost from_gives = { λ f r. r ≡ Reel f };
 

@@ -7,7 +7,7 @@ mod pile;
 mod time;
 mod wave;
 
-pub use columns::{Survey, edge_of, measure, survey_of};
+pub use columns::{Survey, edge_of, in_columns, measure, survey_of};
 pub use fault::SurveyFault;
 pub use pile::{beats_of, levels_of_pile};
 pub use time::{Time, time_of};

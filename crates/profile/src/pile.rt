@@ -8,7 +8,7 @@ use crate::columns::measure;
 use crate::fault::SurveyFault;
 use audio::{Audio, Levels};
 use faults::SessionFault;
-use reels::{Gain, Joined, MuLaw, Pcm};
+use reels::piled;
 use tempo::{Beats, Tempo};
 
 // The levels of a stretch of a PCM reel and a mu-law reel, joined, under a gain.
@@ -21,9 +21,7 @@ pub fn levels_of_pile(
 ) -> Result<Levels, SurveyFault>
     ensures { result ≡ pile_levels first.now second.now n start frames }
 {
-    let pcm = Pcm::new(first)?;
-    let mulaw = MuLaw::new(second)?;
-    let kind = Audio::new(Gain::new(Joined::new(pcm, mulaw), n));
+    let kind = Audio::new(piled(first, second, n)?);
     Ok(measure(&kind, start, frames)?)
 }
 

@@ -3,7 +3,7 @@ ghost use Rattle.profile.specs.Times.{Times};
 use std::fmt;
 
 // How long so many frames last, at 48,000 frames a second.
-#[derive(Clone, Copy)]
+#[derive(Clone, Copy, PartialEq, Eq, Debug)]
 pub struct Time {
     pub hours: u32,
     pub minutes: u32,
@@ -27,10 +27,12 @@ pub fn time_of(frames: u32) -> Time
 // hours:minutes:seconds.frames
 impl fmt::Display for Time {
     fn fmt<W: fmt::Write>(&self, f: &mut fmt::Formatter<W>) -> fmt::Result {
-        let hours = self.hours;
-        let minutes = self.minutes;
-        let seconds = self.seconds;
-        let frames = self.frames;
+        let Time {
+            hours,
+            minutes,
+            seconds,
+            frames,
+        } = *self;
         write!(f, "{hours}:{minutes:02}:{seconds:02}.{frames:05}")
     }
 }

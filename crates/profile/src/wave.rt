@@ -13,18 +13,17 @@ pub fn reaches_band(l: Levels, low: i16, high: i16) -> bool
 
 // One row of a waveform, as ASCII bytes: a mark for each column that reaches the band.
 pub fn wave_row(
-    heap: Global,
+    alloc: Global,
     columns: &[Levels],
     low: i16,
     high: i16,
 ) -> Result<Vec<u8>, AllocError>
     ensures { IfOk result (λ v. v.items ≡ map (mark low high) columns.now) }
 {
-    let mut row = Vec::new(heap);
-    for l in columns {
-        row.push(mark_of(*l, low, high))?;
-    }
-    Ok(row)
+    columns
+        .iter()
+        .map(|l| mark_of(*l, low, high))
+        .collect(alloc)
 }
 
 fn mark_of(l: Levels, low: i16, high: i16) -> u8

@@ -2,6 +2,14 @@
 use Rattle.std.specs.Prelude.{ℕ, ℤ, pos, negsuc, ◌*ℤ◌}
 use Rattle.std.specs.Int.Signed.{shr_z}
 use Rattle.std.specs.Int.{int_max, int_min}
+use Rattle.reels.specs.declared.gain.Gain.{Gain}
+
+-- the reel under a gain, and by how many parts of 256 it scales
+abbrev pub gain_below : {R : Type 0} → Gain R → R
+gain_below g = g.below
+
+abbrev pub gain_by : {R : Type 0} → Gain R → ℕ
+gain_by g = g.n
 
 -- the greatest whole number that is at most x / 256
 abbrev pub floor256 : ℤ → ℤ

@@ -8,9 +8,12 @@ use Rattle.std.specs.Int.{int_max, w16}
 use Rattle.std.specs.List.{AllByRecursion}
 use Rattle.std.proofs.ByRecursion.{All-take, All-append}
 use Rattle.reels.specs.Samples.{Bounds, cut}
-use Rattle.reels.specs.Pcm.{pairs, pcm_samples}
-use Rattle.reels.specs.MuLaw.{inverted, segment, place, apart, value, signed, sign, decoded, mu_law_samples}
+use Rattle.reels.specs.Pcm.{pairs, pcm_bytes, pcm_samples}
+use Rattle.reels.specs.MuLaw.{inverted, segment, place, apart, value, signed, sign, decoded, mu_law_bytes, mu_law_samples}
 use Rattle.reels.specs.Gain.{held, scaled}
+use Rattle.reels.specs.ByteReels.{byte_samples}
+use Rattle.reels.specs.declared.byte_reel.ByteReel.{ByteReel}
+use Rattle.reels.specs.declared.byte_reel.ByteReel.TheVariants.{Pcm, MuLaw}
 
 cut_keeps : (xs : List ℤ) → AllByRecursion (FitsSigned w16) xs → Bounds (cut xs)
 unfolding cut
@@ -78,3 +81,7 @@ gain_keeps n xs b = record { few = rw length-map b.few; narrow = all_scaled n xs
 
 pub joined_keeps : (xs ys : List ℤ) → Bounds xs → Bounds ys → Bounds (cut (xs ++ ys))
 joined_keeps xs ys b c = cut_keeps (xs ++ ys) (All-append (FitsSigned w16) xs ys b.narrow c.narrow)
+
+pub byte_reel_keeps : (r : ByteReel) → Bounds (byte_samples r)
+byte_reel_keeps (Pcm p) = pcm_keeps (pcm_bytes p)
+byte_reel_keeps (MuLaw m) = mulaw_keeps (mu_law_bytes m)

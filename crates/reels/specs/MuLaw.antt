@@ -5,6 +5,7 @@ use Rattle.std.specs.Prelude.{ℕ, zero, suc, ◌+◌, ◌-◌, ◌*◌, ◌/◌
 use Rattle.faults.specs.declared.reel.ReelFault.{ReelFault}
 use Rattle.faults.specs.declared.reel.ReelFault.TheVariants.{TooLong}
 use Rattle.reels.specs.Samples.{cut}
+use Rattle.reels.specs.declared.mulaw.MuLaw.{MuLaw}
 
 abbrev pub inverted : ℕ → ℕ
 inverted byte = 255 - byte
@@ -41,6 +42,10 @@ decoded byte = signed (sign (inverted byte)) (4 * value (inverted byte))
 -- the same as one formula: (8M + 132) 2^E - 132
 abbrev pub size : ℕ → ℕ
 size u = (8 * place u + 132) * 2 ^ segment u - 132
+
+-- the bytes that a mu-law reel reads
+abbrev pub mu_law_bytes : MuLaw → List ℕ
+mu_law_bytes m = m.bytes.now
 
 abbrev pub mu_law_samples : List ℕ → List ℤ
 mu_law_samples bytes = cut (map decoded bytes)

@@ -5,6 +5,11 @@ use Rattle.std.specs.Int.{w16}
 use Rattle.faults.specs.declared.reel.ReelFault.{ReelFault}
 use Rattle.faults.specs.declared.reel.ReelFault.TheVariants.{OddBytes, TooLong}
 use Rattle.reels.specs.Samples.{cut}
+use Rattle.reels.specs.declared.pcm.Pcm.{Pcm}
+
+-- the bytes that a PCM reel reads
+abbrev pub pcm_bytes : Pcm → List ℕ
+pcm_bytes p = p.bytes.now
 
 abbrev pub pairs : List ℕ → List ℤ
 pairs [] = []

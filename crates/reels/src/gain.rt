@@ -1,5 +1,5 @@
 ghost use Rattle.std.specs.Prelude.{◌≡◌, map, pos, ◌*ℤ◌};
-ghost use Rattle.reels.specs.Gain.{floor256, held, scaled};
+ghost use Rattle.reels.specs.Gain.{gain_below, gain_by, floor256, held, scaled};
 ghost use Rattle.reels.specs.Keeps.{gain_keeps};
 ghost use Rattle.reels.specs.Samples.{Copied};
 
@@ -14,30 +14,27 @@ pub struct Gain<R> {
 
 impl<R> Gain<R> {
     pub fn new(below: R, n: u16) -> Gain<R>
-        ensures { (result.below ≡ below) × (result.n ≡ n) }
+        ensures { (gain_below result ≡ below) × (gain_by result ≡ n) }
     {
         Gain { below, n }
     }
 }
 
 impl<R: Reel> Reel for Gain<R> {
-    ghost samples = { λ s. map (scaled s.n) (R.Reel.samples s.below) };
+    ghost samples = { λ s. map (scaled (gain_by s)) (R.Reel.samples (gain_below s)) };
 
-    ghost bounds = { λ s. gain_keeps s.n (R.Reel.samples s.below) (R.Reel.bounds s.below) };
+    ghost bounds = { λ s. gain_keeps (gain_by s) (R.Reel.samples (gain_below s)) (R.Reel.bounds (gain_below s)) };
 
     fn len(&self) -> u32 {
         self.below.len()
     }
 
     fn sample(&self, i: u32) -> Option<i16> {
-        match self.below.sample(i) {
-            Some(s) => Some(scale(s, self.n)),
-            None => None,
-        }
+        self.below.sample(i).map(|s| scale(s, self.n))
     }
 
     fn copy_to(&self, start: u32, block: &mut [i16]) -> usize
-        ensures { Copied (map (scaled self.now.n) (R.Reel.samples self.now.below)) start block.old block.new result }
+        ensures { Copied (map (scaled (gain_by self.now)) (R.Reel.samples (gain_below self.now))) start block.old block.new result }
     {
         let n = self.below.copy_to(start, block);
         amplify(&mut block[0..n], self.n);

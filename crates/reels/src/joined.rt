@@ -1,4 +1,5 @@
 ghost use Rattle.std.specs.Prelude.{◌≡◌, ◌+◌, ◌≤◌, ◌++◌, length};
+ghost use Rattle.reels.specs.Joined.{joined_first, joined_second};
 ghost use Rattle.reels.specs.Keeps.{joined_keeps};
 ghost use Rattle.reels.specs.Samples.{Copied, cut, stretch};
 
@@ -15,16 +16,16 @@ pub struct Joined<P, Q> {
 
 impl<P, Q> Joined<P, Q> {
     pub fn new(first: P, second: Q) -> Joined<P, Q>
-        ensures { (result.first ≡ first) × (result.second ≡ second) }
+        ensures { (joined_first result ≡ first) × (joined_second result ≡ second) }
     {
         Joined { first, second }
     }
 }
 
 impl<P: Reel, Q: Reel> Reel for Joined<P, Q> {
-    ghost samples = { λ s. cut (P.Reel.samples s.first ++ Q.Reel.samples s.second) };
+    ghost samples = { λ s. cut (P.Reel.samples (joined_first s) ++ Q.Reel.samples (joined_second s)) };
 
-    ghost bounds = { λ s. joined_keeps (P.Reel.samples s.first) (Q.Reel.samples s.second) (P.Reel.bounds s.first) (Q.Reel.bounds s.second) };
+    ghost bounds = { λ s. joined_keeps (P.Reel.samples (joined_first s)) (Q.Reel.samples (joined_second s)) (P.Reel.bounds (joined_first s)) (Q.Reel.bounds (joined_second s)) };
 
     fn len(&self) -> u32 {
         (self.first.len() + self.second.len()).min(MOST)
@@ -43,7 +44,7 @@ impl<P: Reel, Q: Reel> Reel for Joined<P, Q> {
     }
 
     fn copy_to(&self, start: u32, block: &mut [i16]) -> usize
-        ensures { Copied (cut (P.Reel.samples self.now.first ++ Q.Reel.samples self.now.second)) start block.old block.new result }
+        ensures { Copied (cut (P.Reel.samples (joined_first self.now) ++ Q.Reel.samples (joined_second self.now))) start block.old block.new result }
     {
         let len = self.len();
         if start >= len {

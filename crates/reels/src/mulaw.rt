@@ -1,6 +1,6 @@
 ghost use Rattle.std.specs.Prelude.{◌≡◌, map, length, IfOk, Some, None, MatchResult};
 ghost use Rattle.reels.specs.Keeps.{mulaw_keeps};
-ghost use Rattle.reels.specs.MuLaw.{decoded, inverted, sign, signed, size, mu_law_samples, mu_law_refusal};
+ghost use Rattle.reels.specs.MuLaw.{decoded, inverted, sign, signed, size, mu_law_bytes, mu_law_samples, mu_law_refusal};
 ghost use Rattle.reels.specs.Samples.{Copied};
 
 use crate::reel::Reel;
@@ -47,7 +47,7 @@ impl<'a> MuLaw<'a> {
     // Refuses more bytes than the limit, and nothing else.
     pub fn new(bytes: &'a [u8]) -> Result<MuLaw<'a>, ReelFault>
         ensures refusal { MatchResult result (λ _. mu_law_refusal bytes.now ≡ None) (λ f. mu_law_refusal bytes.now ≡ Some f) }
-        ensures reel { IfOk result (λ p. (p.bytes.now ≡ bytes.now) × (mu_law_samples p.bytes.now ≡ map decoded bytes.now)) }
+        ensures reel { IfOk result (λ p. (mu_law_bytes p ≡ bytes.now) × (mu_law_samples (mu_law_bytes p) ≡ map decoded bytes.now)) }
     {
         if bytes.len() > MOST {
             return Err(ReelFault::TooLong);
@@ -57,9 +57,9 @@ impl<'a> MuLaw<'a> {
 }
 
 impl<'a> Reel for MuLaw<'a> {
-    ghost samples = { λ s. mu_law_samples s.bytes.now };
+    ghost samples = { λ s. mu_law_samples (mu_law_bytes s) };
 
-    ghost bounds = { λ s. mulaw_keeps s.bytes.now };
+    ghost bounds = { λ s. mulaw_keeps (mu_law_bytes s) };
 
     fn len(&self) -> u32 {
         self.bytes.len().min(MOST) as u32
@@ -73,7 +73,7 @@ impl<'a> Reel for MuLaw<'a> {
     }
 
     fn copy_to(&self, start: u32, block: &mut [i16]) -> usize
-        ensures { Copied (mu_law_samples self.now.bytes.now) start block.old block.new result }
+        ensures { Copied (mu_law_samples (mu_law_bytes self.now)) start block.old block.new result }
     {
         let len = self.len();
         if start >= len {

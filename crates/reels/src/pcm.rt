@@ -1,6 +1,6 @@
 ghost use Rattle.std.specs.Prelude.{◌≡◌, ◌+◌, ◌*◌, ◌<◌, ◌≤◌, map, length, IfOk, Some, None, MatchResult};
 ghost use Rattle.reels.specs.Keeps.{pcm_keeps};
-ghost use Rattle.reels.specs.Pcm.{pairs, pcm_samples, pcm_refusal};
+ghost use Rattle.reels.specs.Pcm.{pairs, pcm_bytes, pcm_samples, pcm_refusal};
 ghost use Rattle.reels.specs.Samples.{Bounds, Copied};
 
 use crate::reel::Reel;
@@ -18,7 +18,7 @@ impl<'a> Pcm<'a> {
     // Refuses an odd number of bytes, then more than the limit, and nothing else.
     pub fn new(bytes: &'a [u8]) -> Result<Pcm<'a>, ReelFault>
         ensures refusal { MatchResult result (λ _. pcm_refusal bytes.now ≡ None) (λ f. pcm_refusal bytes.now ≡ Some f) }
-        ensures reel { IfOk result (λ p. (p.bytes.now ≡ bytes.now) × (pcm_samples p.bytes.now ≡ pairs bytes.now)) }
+        ensures reel { IfOk result (λ p. (pcm_bytes p ≡ bytes.now) × (pcm_samples (pcm_bytes p) ≡ pairs bytes.now)) }
     {
         if bytes.len() % 2 != 0 {
             return Err(ReelFault::OddBytes);
@@ -31,9 +31,9 @@ impl<'a> Pcm<'a> {
 }
 
 impl<'a> Reel for Pcm<'a> {
-    ghost samples = { λ s. pcm_samples s.bytes.now };
+    ghost samples = { λ s. pcm_samples (pcm_bytes s) };
 
-    ghost bounds = { λ s. pcm_keeps s.bytes.now };
+    ghost bounds = { λ s. pcm_keeps (pcm_bytes s) };
 
     fn len(&self) -> u32 {
         (self.bytes.len() / 2).min(MOST) as u32
@@ -48,7 +48,7 @@ impl<'a> Reel for Pcm<'a> {
     }
 
     fn copy_to(&self, start: u32, block: &mut [i16]) -> usize
-        ensures { Copied (pcm_samples self.now.bytes.now) start block.old block.new result }
+        ensures { Copied (pcm_samples (pcm_bytes self.now)) start block.old block.new result }
     {
         let len = self.len();
         if start >= len {

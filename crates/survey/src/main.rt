@@ -5,17 +5,11 @@ mod options;
 
 use anyhow::anyhow;
 use audio::{Audio, Levels};
-use faults::ReelFault;
-use options::{Format, Options, Source, parse};
-use profile::{SurveyFault, survey_of, time_of, wave_row};
-use reels::{Gain, Joined, MuLaw, Pcm, Reel, write_out};
-use std::io::Write;
-use std::{env, fs};
-
-// A row of the waveform is a band of 4,096 sample values.
-const ROWS: u16 = 16;
-
-const BAND: i32 = 4096;
+use options::{Options, Source, parse};
+use profile::{SurveyFault, survey_of, time_of};
+use reels::{ByteReel, Gain, Joined, Reel, write_out};
+use std::fs;
+use terminal::{called_with, print_wave, read};
 
 const HELP: &str = "survey: length, levels and waveform of a reel
 
@@ -36,10 +30,7 @@ fn main(rt: HostRuntime) -> anyhow::Result<()> {
 }
 
 fn run(rt: &HostRuntime) -> anyhow::Result<()> {
-    let mut words = Vec::new(rt.alloc());
-    for word in env::args(rt)?.skip(1) {
-        words.push(word)?;
-    }
+    let words = called_with(rt)?;
     match parse(words.as_slice())? {
         Some(options) => with_first(rt, &options),
         None => {
@@ -49,26 +40,9 @@ fn run(rt: &HostRuntime) -> anyhow::Result<()> {
     }
 }
 
-fn read(rt: &HostRuntime, path: &str) -> anyhow::Result<Vec<u8>> {
-    match fs::read(rt, path) {
-        Ok(bytes) => Ok(bytes),
-        Err(e) => Err(anyhow!(format!(in rt.alloc(); "{path}: {e}")?)),
-    }
-}
-
 fn with_first(rt: &HostRuntime, options: &Options<'_>) -> anyhow::Result<()> {
-    let path = options.first.path;
-    let bytes = read(rt, path)?;
-    match options.first.format {
-        Format::Pcm => match Pcm::new(bytes.as_slice()) {
-            Ok(reel) => with_second(rt, options, reel),
-            Err(f) => Err(fault(rt, path, f)?),
-        },
-        Format::MuLaw => match MuLaw::new(bytes.as_slice()) {
-            Ok(reel) => with_second(rt, options, reel),
-            Err(f) => Err(fault(rt, path, f)?),
-        },
-    }
+    let bytes = read(rt, options.first.path)?;
+    with_second(rt, options, reel_of(options.first, bytes.as_slice())?)
 }
 
 fn with_second<R: Reel + Copy>(
@@ -88,18 +62,21 @@ fn with_joined<R: Reel + Copy>(
     first: R,
     source: Source<'_>,
 ) -> anyhow::Result<()> {
-    let path = source.path;
-    let bytes = read(rt, path)?;
-    match source.format {
-        Format::Pcm => match Pcm::new(bytes.as_slice()) {
-            Ok(reel) => with_gain(rt, options, Joined::new(first, reel)),
-            Err(f) => Err(fault(rt, path, f)?),
-        },
-        Format::MuLaw => match MuLaw::new(bytes.as_slice()) {
-            Ok(reel) => with_gain(rt, options, Joined::new(first, reel)),
-            Err(f) => Err(fault(rt, path, f)?),
-        },
-    }
+    let bytes = read(rt, source.path)?;
+    with_gain(
+        rt,
+        options,
+        Joined::new(first, reel_of(source, bytes.as_slice())?),
+    )
+}
+
+// The file's bytes as a reel, or an error that names the file, with the refusal's number.
+fn reel_of<'a>(source: Source<'_>, bytes: &'a [u8]) -> anyhow::Result<ByteReel<'a>> {
+    let Source { path, format } = source;
+    ByteReel::new(bytes, format).map_err(|f| {
+        let number = f.number();
+        anyhow!("{path}: refused with {number}: {f}")
+    })
 }
 
 fn with_gain<R: Reel + Copy>(
@@ -120,12 +97,6 @@ fn finish<R: Reel + Copy>(rt: &HostRuntime, options: &Options<'_>, reel: R) -> a
         println!(rt; "wrote    {path}")?;
     }
     Ok(())
-}
-
-// A refusal of bytes as a reel, with the file and the number.
-fn fault(rt: &HostRuntime, path: &str, f: ReelFault) -> anyhow::Result<anyhow::Error> {
-    let number = f.number();
-    Ok(anyhow!(format!(in rt.alloc(); "{path}: refused with {number}: {f}")?))
 }
 
 // Length, levels and waveform.
@@ -160,16 +131,6 @@ fn print_levels(rt: &HostRuntime, levels: Levels) -> anyhow::Result<()> {
     Ok(())
 }
 
-fn print_wave(rt: &HostRuntime, columns: &[Levels]) -> anyhow::Result<()> {
-    for row in 0..ROWS {
-        let high = 32767 - row as i32 * BAND;
-        let marks = wave_row(rt.alloc(), columns, (high - BAND + 1) as i16, high as i16)?;
-        rt.stdout().write_all(marks.as_slice())?;
-        println!(rt; "|")?;
-    }
-    Ok(())
-}
-
 // Writes the samples as raw PCM: into a file beside it first, so that no half-written file has the
 // name asked for.
 fn save<R: Reel>(rt: &HostRuntime, reel: R, path: &str) -> anyhow::Result<()>
@@ -181,10 +142,7 @@ where
     let part = format!(in rt.alloc(); "{path}.part")?;
     if let Err(e) = fs::write(rt, part.as_str(), bytes.as_slice()) {
         let _ = fs::remove_file(rt, part.as_str());
-        return Err(anyhow!(format!(in rt.alloc(); "{path}: not written: {e}")?));
+        return Err(anyhow!("{path}: not written: {e}"));
     }
-    match fs::rename(rt, part.as_str(), path) {
-        Ok(()) => Ok(()),
-        Err(e) => Err(anyhow!(format!(in rt.alloc(); "{path}: not written: {e}")?)),
-    }
+    fs::rename(rt, part.as_str(), path).map_err(|e| anyhow!("{path}: not written: {e}"))
 }

@@ -1,13 +1,8 @@
-ghost use Rattle.std.specs.Prelude.{◌^◌, ◌<◌, ◌≤◌, IfSome, IfOk};
+ghost use Rattle.std.specs.Prelude.{◌≤◌, IfSome, IfOk};
 
-use anyhow::anyhow;
-
-// How the bytes of a file mean samples.
-#[derive(Clone, Copy)]
-pub enum Format {
-    Pcm,
-    MuLaw,
-}
+use anyhow::{Context, anyhow};
+use reels::Format;
+use terminal::{number, value};
 
 #[derive(Clone, Copy)]
 pub struct Source<'a> {
@@ -43,29 +38,25 @@ pub fn parse(words: &[String]) -> anyhow::Result<Option<Options<'_>>>
         columns: 64,
         out: None,
     };
-    let mut i = 0;
-    while i < words.len() {
-        let word = words[i].as_str();
+    let mut words = words.iter();
+    while let Some(word) = words.next() {
+        let word = word.as_str();
         if word == "--help" {
             return Ok(None);
         }
-        i += 1;
         if !word.starts_with("--") {
             file = Some(only(file, word)?);
         } else if word == "--mulaw" {
             format = Format::MuLaw;
         } else {
-            options = with_value(options, word, value(words, i)?)?;
-            i += 1;
+            options = with_value(options, word, value(&mut words)?)?;
         }
     }
-    match file {
-        Some(path) => Ok(Some(Options {
-            first: Source { path, format },
-            chosen: options,
-        })),
-        None => Err(anyhow!("no file is named; --help tells how")),
-    }
+    let path = file.context("no file is named; --help tells how")?;
+    Ok(Some(Options {
+        first: Source { path, format },
+        chosen: options,
+    }))
 }
 
 // The options with one more that has a value.
@@ -89,24 +80,6 @@ fn with_value<'a>(so_far: Chosen<'a>, word: &str, value: &'a str) -> anyhow::Res
         _ => return Err(anyhow!("an option is unknown; --help tells which there are")),
     }
     Ok(options)
-}
-
-fn value(words: &[String], i: usize) -> anyhow::Result<&str> {
-    match words.get(i) {
-        Some(word) => Ok(word.as_str()),
-        None => Err(anyhow!("the last option wants a value")),
-    }
-}
-
-// The number of a word that lies between two others.
-fn number(word: &str, least: u32, most: u32) -> anyhow::Result<u32>
-    requires { most < 2 ^ 16 }
-    ensures { IfOk result (λ n. (least ≤ n) × (n ≤ most)) }
-{
-    match word.parse::<u32>() {
-        Ok(n) if least <= n && n <= most => Ok(n),
-        _ => Err(anyhow!("a number is none, or is out of its range; --help tells which")),
-    }
 }
 
 // The one file that is named.

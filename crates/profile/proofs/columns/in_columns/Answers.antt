@@ -1,0 +1,16 @@
+use Rattle.std.proofs.Common.{◌+◌, arith}
+use Rattle.profile.specs.Columns.{edge}
+use Rattle.profile.proofs.Edges.{edge_rises}
+use Rattle.profile.proofs.Values.{value_more}
+use Rattle.profile.proofs.columns.in_columns.Goals as goal
+
+pub stretch-requires : goal.stretch-requires
+stretch-requires g c =
+    c.requires c.edge_of.result c.edge_of-in-loop-i.result (omega (arith, c.edge_of.ensures.place, c.edge_of-in-loop-i.ensures.place, edge_rises c.args.extent c.args.n c.loop-i.i (omega arith))) c.edge_of-in-loop-i.ensures.inside
+
+pub loop-i-preserved : goal.loop-i-preserved
+loop-i-preserved g c =
+    let Gives = λ (i : _) (s : _). goal.F-post g c.args.stretch (edge c.args.extent c.args.n i) (edge c.args.extent c.args.n (i + 1)) s in
+    let this = rw (c.edge_of.ensures.place, c.edge_of-in-loop-i.ensures.place) at c.stretch.ensures in
+    let told = value_more Gives c.loop-i.i c.loop-i.columns.items c.stretch.result c.loop-i.invariant this in
+    rw c.in_ok-push.ensures.items told
