@@ -71,10 +71,9 @@ NotRearranged k size pieces s (Session f) = Stops k size pieces s f
 NotRearranged k size pieces s NoMemory = Unit {0}
 
 -- Why there is none over a pile of two reels: bytes that are no reel are refused before anything else is looked at.
-abbrev pub NotOver : Option ReelFault → Option ReelFault → (SurveyFault → Type 0) → SurveyFault → Type 0
-NotOver (Some f) second P g = g ≡ Reel f
-NotOver None (Some f) P g = g ≡ Reel f
-NotOver None None P g = P g
+abbrev pub NotOver : Option ReelFault → (SurveyFault → Type 0) → SurveyFault → Type 0
+NotOver (Some f) P g = g ≡ Reel f
+NotOver None P g = P g
 
 -- the roots of versions, the last first
 abbrev pub roots : Versions → List ℕ

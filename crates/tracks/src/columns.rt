@@ -9,7 +9,7 @@ ghost use Rattle.edits.specs.Edits.{list};
 
 use cells::{Cell, Pool};
 use kinds::Kind;
-use profile::edge_of;
+use profile::in_columns;
 use std::alloc::{AllocError, Global};
 use walks::{overview, width_at};
 
@@ -47,12 +47,7 @@ pub fn columns_of<K: Kind>(
     ensures { IfOk result (λ v. v.items ≡ map (column (K.meaning kind.now) (atoms_of (K.meaning kind.now) (list cells.now root)) n) (range_with_len 0 n)) }
 {
     let extent = width_at(kind, cells, root);
-    let mut columns = Vec::new(heap);
-    let mut from = 0;
-    for i in 0..n {
-        let to = edge_of(extent, n, i + 1);
-        columns.push(stretch(kind, cells, pool, root, from, to))?;
-        from = to;
-    }
-    Ok(columns)
+    in_columns(heap, extent, n, |from, to| {
+        stretch(kind, cells, pool, root, from, to)
+    })
 }

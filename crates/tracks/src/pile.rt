@@ -2,9 +2,7 @@
 ghost use Rattle.std.specs.Prelude.{length, MatchResult};
 ghost use Rattle.audio.specs.Audio.{audio};
 ghost use Rattle.tempo.specs.Tempo.{tempo};
-ghost use Rattle.reels.specs.MuLaw.{mu_law_refusal};
-ghost use Rattle.reels.specs.Pcm.{pcm_refusal};
-ghost use Rattle.profile.specs.Piles.{pile};
+ghost use Rattle.reels.specs.Piles.{pile, pile_refusal};
 ghost use Rattle.tracks.specs.Moving.{NotRearranged, NotOver, Rearranges};
 
 use crate::piece::Piece;
@@ -14,7 +12,7 @@ use crate::version::Rearranged;
 use audio::{Audio, Clip, Levels};
 use cells::Cell;
 use profile::SurveyFault;
-use reels::{Gain, Joined, MuLaw, Pcm};
+use reels::piled;
 use std::alloc::Global;
 use tempo::{Beats, Span, Tempo};
 
@@ -30,12 +28,10 @@ pub fn rearrange_pile(
 ) -> Result<Rearranged<Levels>, SurveyFault>
     ensures { MatchResult result
         (Rearranges (audio (pile first.now second.now gain)) pieces.now shift (length cells.old))
-        (NotOver (pcm_refusal first.now) (mu_law_refusal second.now)
+        (NotOver (pile_refusal first.now second.now)
         (NotRearranged (audio (pile first.now second.now gain)) (length cells.old) pieces.now shift)) }
 {
-    let pcm = Pcm::new(first)?;
-    let mulaw = MuLaw::new(second)?;
-    let kind = Audio::new(Gain::new(Joined::new(pcm, mulaw), gain));
+    let kind = Audio::new(piled(first, second, gain)?);
     rearrange(heap, &kind, cells, pieces, shift)
 }
 
