@@ -2,7 +2,7 @@
 use Rattle.std.proofs.Common.{◌≡◌, ℕ, ◌+◌, ◌*◌, ◌^◌, ◌≤◌, List, [], ◌∷◌, length, refl, ap, ◌∙◌, ⊎_elim, arith}
 use Rattle.std.proofs.lemmas.Bool.{cases_lt}
 use Rattle.kinds.specs.Kinds.{Meaning}
-use Rattle.kinds.specs.Places.{put_at, taken}
+use Rattle.kinds.specs.Places.{put_at, taken, without}
 use Rattle.kinds.proofs.Places.{taken_fewer}
 use Rattle.flat.specs.Refusals.{element_limit}
 use Rattle.balance.specs.Levels.{most}
@@ -38,6 +38,9 @@ module _ {E A S : Type 0} {k : Meaning E A S} {a : List (Cell E S)} {p : Pool} {
     pub made_light : cell_count b r ≤ most
     made_light = made_few made_arena (omega (arith, ap length makes.listed, (put_count k (list a root) (list a clip) place).most))
 
+    pub made_count : {n : ℕ} → n ≡ cell_count b r → n ≡ length (put_at k place (list a clip) (list a root))
+    made_count counts = omega (arith, top_count made_arena, ap length makes.listed)
+
     pub made_rests : (c : List (Cell E S)) (o : Pool) → ((rs : List ℕ) → Arena k b q (r ∷ rs) → Releases k b q rs c o) → length c ≡ length a → Rests k a p c o
     made_rests c o drop long =
         rests_moved k a p c o (edit_takes + 0) (moves_then k a p [] b q (r ∷ []) edit_takes makes.each (r ∷ []) [] (λ i. omega arith) c o [] 0 (λ rs ar. (drop rs ar).moved) [] (λ i. omega arith)) long
@@ -52,6 +55,9 @@ module _ {E A S : Type 0} {k : Meaning E A S} {a : List (Cell E S)} {p : Pool} {
 
     pub left_light : cell_count b r.left ≤ most
     left_light = made_few cut_arena (omega (arith, ap length cuts.left, without_count k (list a root) from len))
+
+    pub left_count : {n : ℕ} → n ≡ cell_count b r.left → n ≡ length (without k from len (list a root))
+    left_count counts = omega (arith, top_count cut_arena, ap length cuts.left)
 
     module _ (c : List (Cell E S)) (o : Pool) (drop : (rs : List ℕ) → Arena k b q (r.left ∷ rs) → Releases k b q rs c o) where
       to_c : Moves k a p [] c o (r.taken ∷ []) (edit_takes + 0)

@@ -1,7 +1,7 @@
 -- One round more.
-use Rattle.std.proofs.Common.{◌≡◌, ℕ, ◌+◌, ◌-◌, ◌%◌, ◌^◌, ◌<◌, ◌≤◌, cond, List, [], ◌∷◌, ◌++◌, take, drop, sym, ap, ◌∙◌, add-one, arith, length-take, length-drop, lt-ltb, le-ltb}
+use Rattle.std.proofs.Common.{◌≡◌, ℕ, ◌+◌, ◌-◌, ◌%◌, ◌^◌, ◌<◌, ◌≤◌, cond, List, [], ◌∷◌, ◌++◌, length, take, drop, sym, ap, ◌∙◌, add-one, arith, length-take, length-drop, lt-ltb, le-ltb}
 use Rattle.kinds.specs.Kinds.{Meaning, Laws, total}
-use Rattle.kinds.specs.Places.{extent, extent_of}
+use Rattle.kinds.specs.Places.{extent, extent_of, put_at, without}
 use Rattle.balance.specs.Lists.{extents}
 use Rattle.balance.specs.Ways.{span}
 use Rattle.cells.specs.declared.cell.Cell.{Cell}
@@ -12,7 +12,7 @@ use Rattle.walks.specs.Holding.{Reads}
 use Rattle.walks.proofs.Sums.{few_take, few_drop, few_tree}
 use Rattle.cells.proofs.Trees.{meant_span}
 use Rattle.edits.specs.Edits.{list}
-use Rattle.paces.specs.Sums.{step, place_in, left_by, summed, offset_in, offset_from, length_from}
+use Rattle.paces.specs.Sums.{step, place_in, left_by, summed, offset_in, offset_from, length_from, put_from, cut_from}
 
 module _ (after gives : ℕ → ℕ) (n : ℕ) {s : ℕ} (state : s ≡ left_by after n) where
   pub left_more : {t : ℕ} → t ≡ after s → t ≡ left_by after (n + 1)
@@ -52,6 +52,14 @@ module _ {E A S : Type 0} (k : Meaning E A S) where
     length_told {u} next behind =
         ap (λ x. x + 1) (behind ∙ ap (λ x. place_in u (x - p)) is ∙ ap (λ x. place_in u (extent_of k (list cells root) - 1 - x)) from_is
         ∙ ap (λ x. place_in x (extent_of k (list cells root) - 1 - place_in (step s) (extent_of k (list cells root) - 1))) (next ∙ ap step state))
+
+-- what a round tells that puts in, and one that cuts out, while the lists stay
+module _ {E A S : Type 0} (k : Meaning E A S) {es fs : List E} (same : fs ≡ es) {end : ℕ} (is : end ≡ extent_of k es) (s : ℕ) {t p : ℕ} (state : t ≡ step s) (place : p ≡ place_in t end) where
+  pub put_told : {clip old : List E} {n : ℕ} → old ≡ clip → n ≡ length (put_at k p old fs) → n ≡ put_from k es clip s
+  put_told kept count = cc
+
+  pub cut_told : {u l n : ℕ} → u ≡ step t → l ≡ place_in u (end - p) → n ≡ length (without k p l fs) → n ≡ cut_from k es s
+  cut_told next behind count = cc
 
 -- the width of an overview is the length of its range
 pub width_found : {E A S : Type 0} (k : Meaning E A S) (laws : Laws k) (cells : List (Cell E S)) → Sound k cells → (root : ℕ) → Live cells root → (from len : ℕ) → from + len ≤ span (shape k) (tree cells root)

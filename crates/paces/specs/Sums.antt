@@ -1,7 +1,7 @@
 -- What rounds sum up, each at a place without a pattern.
-use Rattle.std.specs.Prelude.{ℕ, zero, suc, ◌+◌, ◌-◌, ◌*◌, ◌/◌, ◌%◌, ◌^◌, cond, List, [], ◌∷◌, nat_lt}
+use Rattle.std.specs.Prelude.{ℕ, zero, suc, ◌+◌, ◌-◌, ◌*◌, ◌/◌, ◌%◌, ◌^◌, cond, List, [], ◌∷◌, length, nat_lt}
 use Rattle.kinds.specs.Kinds.{Meaning}
-use Rattle.kinds.specs.Places.{extent, extent_of}
+use Rattle.kinds.specs.Places.{extent, extent_of, put_at, without}
 
 -- the generator's state after one step more
 abbrev pub step : ℕ → ℕ
@@ -36,7 +36,20 @@ module _ {E A S : Type 0} (k : Meaning E A S) (es : List E) where
   abbrev pub length_from : ℕ → ℕ
   length_from s = place_in (step (step s)) (extent_of k es - 1 - place_in (step s) (extent_of k es - 1)) + 1
 
-  -- the sums of n rounds, where the list is not empty
+  -- how many elements a round leaves that puts the list clip in at a place, and one that cuts a range out
+  abbrev pub put_from : List E → ℕ → ℕ
+  put_from clip s = length (put_at k (place_in (step s) (extent_of k es)) clip es)
+
+  abbrev pub cut_from : ℕ → ℕ
+  cut_from s = length (without k (place_in (step s) (extent_of k es)) (place_in (step (step s)) (extent_of k es - place_in (step s) (extent_of k es))) es)
+
+  -- the sums of n rounds; those of offsets and lengths, where the list is not empty
+  abbrev pub put_counts : List E → ℕ → ℕ
+  put_counts clip = summed step (put_from clip)
+
+  abbrev pub cut_counts : ℕ → ℕ
+  cut_counts = summed (λ s. step (step s)) cut_from
+
   abbrev pub offsets : ℕ → ℕ
   offsets = summed step offset_from
 

@@ -1,7 +1,7 @@
 // The rounds: each does one thing at a place without a pattern, always with the same track, and gives back what it made.
 ghost use Rattle.std.specs.Prelude.{◌≡◌, ◌+◌, ◌^◌, ◌<◌, ◌≤◌, [], ◌∷◌, length};
 ghost use Rattle.faults.specs.Limits.{limit};
-ghost use Rattle.kinds.specs.Places.{extent_of};
+ghost use Rattle.kinds.specs.Places.{extent_of, put_at, without};
 ghost use Rattle.flat.specs.Refusals.{element_limit};
 ghost use Rattle.balance.specs.Levels.{most};
 ghost use Rattle.balance.specs.Ways.{span};
@@ -9,7 +9,7 @@ ghost use Rattle.cells.specs.Cells.{shape, tree, cell_count, Live, Sound};
 ghost use Rattle.splits.specs.Owning.{Owns};
 ghost use Rattle.edits.specs.Edits.{edit_takes, list};
 ghost use Rattle.paces.specs.Rests.{Rests};
-ghost use Rattle.paces.specs.Sums.{offsets, lengths};
+ghost use Rattle.paces.specs.Sums.{put_counts, cut_counts, offsets, lengths};
 
 use crate::places::Places;
 use cells::{Cell, Pool, count_at, release};
@@ -30,7 +30,8 @@ fn put_once<K: Kind>(
     requires few { length (list cells.old root) + length (list cells.old clip) ≤ element_limit }
     requires short { extent_of (K.meaning kind.now) (list cells.old root) + extent_of (K.meaning kind.now) (list cells.old clip) ≤ limit }
     requires some { edit_takes ≤ pool.old.free }
-    ensures { Rests (K.meaning kind.now) cells.old pool.old cells.new pool.new }
+    ensures rests { Rests (K.meaning kind.now) cells.old pool.old cells.new pool.new }
+    ensures count { result ≡ length (put_at (K.meaning kind.now) place (list cells.old clip) (list cells.old root)) }
 {
     let r = put(kind, cells, pool, root, place, clip);
     let n = count_at(cells, r);
@@ -50,7 +51,8 @@ fn cut_once<K: Kind>(
     requires owns { Owns (K.meaning kind.now) cells.old pool.old [] (root ∷ []) (2 ^ 15) }
     requires few { length (list cells.old root) ≤ element_limit }
     requires some { edit_takes ≤ pool.old.free }
-    ensures { Rests (K.meaning kind.now) cells.old pool.old cells.new pool.new }
+    ensures rests { Rests (K.meaning kind.now) cells.old pool.old cells.new pool.new }
+    ensures count { result ≡ length (without (K.meaning kind.now) from len (list cells.old root)) }
 {
     let r = cut(kind, cells, pool, root, from, len);
     let n = count_at(cells, r.left);
@@ -59,6 +61,7 @@ fn cut_once<K: Kind>(
     n
 }
 
+// Puts the list of `clip` in at places, and adds up how many elements there are then.
 pub(crate) fn puts<K: Kind>(
     kind: &K,
     cells: &mut [Cell<K::Element, K::Summary>],
@@ -71,7 +74,8 @@ pub(crate) fn puts<K: Kind>(
     requires few { length (list cells.old root) + length (list cells.old clip) ≤ element_limit }
     requires short { extent_of (K.meaning kind.now) (list cells.old root) + extent_of (K.meaning kind.now) (list cells.old clip) ≤ limit }
     requires some { edit_takes ≤ pool.old.free }
-    ensures { Rests (K.meaning kind.now) cells.old pool.old cells.new pool.new }
+    ensures rests { Rests (K.meaning kind.now) cells.old pool.old cells.new pool.new }
+    ensures sum { result ≡ put_counts (K.meaning kind.now) (list cells.old root) (list cells.old clip) rounds }
 {
     let end = width_at(kind, cells, root);
     let mut places = Places::new();
@@ -83,6 +87,7 @@ pub(crate) fn puts<K: Kind>(
     sum
 }
 
+// Cuts ranges out, and adds up how many elements are left.
 pub(crate) fn cuts<K: Kind>(
     kind: &K,
     cells: &mut [Cell<K::Element, K::Summary>],
@@ -93,7 +98,8 @@ pub(crate) fn cuts<K: Kind>(
     requires owns { Owns (K.meaning kind.now) cells.old pool.old [] (root ∷ []) (2 ^ 15) }
     requires few { length (list cells.old root) ≤ element_limit }
     requires some { edit_takes ≤ pool.old.free }
-    ensures { Rests (K.meaning kind.now) cells.old pool.old cells.new pool.new }
+    ensures rests { Rests (K.meaning kind.now) cells.old pool.old cells.new pool.new }
+    ensures sum { result ≡ cut_counts (K.meaning kind.now) (list cells.old root) rounds }
 {
     let end = width_at(kind, cells, root);
     let mut places = Places::new();

@@ -1,5 +1,5 @@
 use Rattle.std.proofs.Common.{◌≡◌, length, rules}
-use Rattle.paces.proofs.Onces.{left_owned, left_light, taken_owned, taken_light, cut_rests}
+use Rattle.paces.proofs.Onces.{left_owned, left_light, left_count, taken_owned, taken_light, cut_rests}
 use Rattle.paces.proofs.rounds.cut_once.Goals as goal
 
 pub release-requires : goal.release-requires
@@ -14,4 +14,7 @@ release-requires-2 g c = record {
 pub returns : goal.returns
 returns g c =
     let long : length c.release-2.new.cells ≡ length c.args.cells.now = search rules in
-    cut_rests c.requires.owns c.args.root c.args.from c.args.len c.requires.few c.cut-r.ensures c.release.new.cells c.release.new.pool c.release.ensures c.release-2.new.cells c.release-2.new.pool c.release-2.ensures long
+    record {
+      rests = cut_rests c.requires.owns c.args.root c.args.from c.args.len c.requires.few c.cut-r.ensures c.release.new.cells c.release.new.pool c.release.ensures c.release-2.new.cells c.release-2.new.pool c.release-2.ensures long;
+      count = left_count c.requires.owns c.args.root c.args.from c.args.len c.requires.few c.cut-r.ensures c.count_at-n.ensures;
+    }

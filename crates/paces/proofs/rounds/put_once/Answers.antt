@@ -1,5 +1,5 @@
 use Rattle.std.proofs.Common.{◌≡◌, length, rules}
-use Rattle.paces.proofs.Onces.{made_owned, made_light, made_rests}
+use Rattle.paces.proofs.Onces.{made_owned, made_light, made_count, made_rests}
 use Rattle.paces.proofs.rounds.put_once.Goals as goal
 
 pub release-requires : goal.release-requires
@@ -11,4 +11,7 @@ release-requires g c = record {
 pub returns : goal.returns
 returns g c =
     let long : length c.release.new.cells ≡ length c.args.cells.now = search rules in
-    made_rests c.requires.owns c.args.root c.args.place c.args.clip c.requires.few c.put-r.ensures c.release.new.cells c.release.new.pool c.release.ensures long
+    record {
+      rests = made_rests c.requires.owns c.args.root c.args.place c.args.clip c.requires.few c.put-r.ensures c.release.new.cells c.release.new.pool c.release.ensures long;
+      count = made_count c.requires.owns c.args.root c.args.place c.args.clip c.requires.few c.put-r.ensures c.count_at-n.ensures;
+    }
