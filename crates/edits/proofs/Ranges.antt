@@ -30,7 +30,7 @@ use Rattle.splits.specs.Splitting.{behind, loose_roots, Grows, Splits}
 use Rattle.edits.specs.Edits.{edit_takes, copy_takes, list, Makes, Cuts}
 use Rattle.splits.proofs.Places.{same_taken, same_without, back_lawful, parted_extents, rest_extents}
 use Rattle.splits.proofs.Merges.{behind_stays}
-use Rattle.edits.proofs.Roots.{both_counts, owned_balanced, owned_lawful, owned_short, top_count}
+use Rattle.edits.proofs.Roots.{both_counts, owned_balanced, owned_lawful, owned_short, top_count, wide}
 
 -- what copying or cutting a range out of the list of root is given
 pub record Ranging {E A S : Type 0} (k : Meaning E A S) (a : List (Cell E S)) (p : Pool) (root : ℕ) : Type 0 where
@@ -71,7 +71,7 @@ module _ {E A S : Type 0} {k : Meaning E A S} {a : List (Cell E S)} {p : Pool} {
   end_sound = parted_rest_sound (shape k) s.rest len sound.rest_balanced
 
   short : span (shape k) s.before + extents (shape k) (listed s.rest) ≤ limit
-  short = omega (arith, parted_extents k at.laws T from T-lawful, owned_short at.owns.arena root root_owned)
+  short = omega (arith, parted_extents k at.laws T from T-lawful, owned_short at.owns.arena root root_owned, wide k a root)
 
   end_short : extents (shape k) (listed z.rest) ≤ extents (shape k) (listed s.rest)
   end_short =

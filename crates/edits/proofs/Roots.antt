@@ -81,8 +81,8 @@ module _ {E A S : Type 0} {k : Meaning E A S} {a : List (Cell E S)} {p : Pool} {
   pub owned_lawful : AllByRecursion (Lawful k) (elements (tree a root))
   owned_lawful = tree_lawful k a arena.sound root owned_live
 
-  pub owned_short : span (shape k) (tree a root) ≤ limit
-  owned_short = live_short k a arena.sound root owned_live
+  pub owned_short : extent_of k (list a root) ≤ limit
+  owned_short = omega (arith, live_short k a arena.sound root owned_live, wide k a root)
 
   pub owned_count : cell_count a root ≡ length (list a root)
   owned_count = sym (known k a arena.sound root owned_live).counts ∙ count_length (tree a root)
@@ -95,7 +95,7 @@ module _ {E A S : Type 0} {k : Meaning E A S} {a : List (Cell E S)} {p : Pool} {
   pub top_count : cell_count a root ≡ length (list a root)
   top_count = owned_count arena root (at_top root rs)
 
-  pub top_short : span (shape k) (tree a root) ≤ limit
+  pub top_short : extent_of k (list a root) ≤ limit
   top_short = owned_short arena root (at_top root rs)
 
   pub top_few : length (list a root) ≤ most → cell_count a root ≤ most
@@ -112,7 +112,7 @@ module _ {E A S : Type 0} {k : Meaning E A S} {a : List (Cell E S)} {p : Pool} {
   pub lent_count : cell_count a root ≡ length (list a root)
   lent_count = owned_count owns.arena root lent_among
 
-  pub lent_short : span (shape k) (tree a root) ≤ limit
+  pub lent_short : extent_of k (list a root) ≤ limit
   lent_short = owned_short owns.arena root lent_among
 
   -- the others by themselves, and the same under another bound

@@ -10,11 +10,10 @@ use crate::rounds::{cuts, overviews, puts, reads};
 use crate::work::Work;
 use audio::Audio;
 use cells::{Cell, Pool, count_at, free, release, start};
-use edits::copy;
+use edits::{copy, extent_at};
 use kinds::Kind;
 use reels::{Pcm, Reel};
 use tracks::{Piece, blank, lay_all};
-use walks::width_at;
 
 // What is told where nothing is done.
 const IDLE: Pace = Pace { sum: 0, free: 8192 };
@@ -37,7 +36,7 @@ fn puts_with<K: Kind>(
     ensures { Rests (K.meaning kind.now) cells.old pool.old cells.new pool.new }
 {
     let elements = count_at(cells, root) + count_at(cells, clip);
-    let extent = width_at(kind, cells, root) + width_at(kind, cells, clip);
+    let extent = extent_at(kind, cells, root) + extent_at(kind, cells, clip);
     if elements > 4095 || extent > 1073741824 {
         return 0;
     }
@@ -57,7 +56,7 @@ fn with_clip<K: Kind>(
     requires some { 2048 ≤ pool.old.free }
     ensures { Rests (K.meaning kind.now) cells.old pool.old cells.new pool.new }
 {
-    let end = width_at(kind, cells, root);
+    let end = extent_at(kind, cells, root);
     let clip = copy(kind, cells, pool, root, 0, end / 100);
     let sum = puts_with(kind, cells, pool, root, clip, rounds);
     release(kind, cells, pool, clip);
@@ -77,7 +76,7 @@ fn worked<K: Kind>(
     requires few { length (list cells.old root) ≤ element_limit }
     ensures { Rests (K.meaning kind.now) cells.old pool.old cells.new pool.new }
 {
-    if pool.free < 2048 || width_at(kind, cells, root) == 0 {
+    if pool.free < 2048 || extent_at(kind, cells, root) == 0 {
         return 0;
     }
     match work {

@@ -4,8 +4,7 @@ ghost use Rattle.faults.specs.Limits.{limit};
 ghost use Rattle.kinds.specs.Places.{extent_of, put_at, without};
 ghost use Rattle.flat.specs.Refusals.{element_limit};
 ghost use Rattle.balance.specs.Levels.{most};
-ghost use Rattle.balance.specs.Ways.{span};
-ghost use Rattle.cells.specs.Cells.{shape, tree, cell_count, Live, Sound};
+ghost use Rattle.cells.specs.Cells.{cell_count, Live, Sound};
 ghost use Rattle.splits.specs.Owning.{Owns};
 ghost use Rattle.edits.specs.Edits.{edit_takes, list};
 ghost use Rattle.paces.specs.Rests.{Rests};
@@ -13,9 +12,9 @@ ghost use Rattle.paces.specs.Sums.{put_counts, cut_counts, offsets, lengths};
 
 use crate::places::Places;
 use cells::{Cell, Pool, count_at, release};
-use edits::{cut, put};
+use edits::{cut, extent_at, put};
 use kinds::Kind;
-use walks::{overview, read, width_at};
+use walks::{overview, read};
 
 // Puts the list of `clip` in at a place, and tells how many elements there are then.
 fn put_once<K: Kind>(
@@ -77,7 +76,7 @@ pub(crate) fn puts<K: Kind>(
     ensures rests { Rests (K.meaning kind.now) cells.old pool.old cells.new pool.new }
     ensures sum { result ≡ put_counts (K.meaning kind.now) (list cells.old root) (list cells.old clip) rounds }
 {
-    let end = width_at(kind, cells, root);
+    let end = extent_at(kind, cells, root);
     let mut places = Places::new();
     let mut sum = 0u64;
     for _ in 0..rounds {
@@ -101,7 +100,7 @@ pub(crate) fn cuts<K: Kind>(
     ensures rests { Rests (K.meaning kind.now) cells.old pool.old cells.new pool.new }
     ensures sum { result ≡ cut_counts (K.meaning kind.now) (list cells.old root) rounds }
 {
-    let end = width_at(kind, cells, root);
+    let end = extent_at(kind, cells, root);
     let mut places = Places::new();
     let mut sum = 0u64;
     for _ in 0..rounds {
@@ -123,10 +122,10 @@ pub(crate) fn reads<K: Kind>(
     requires sound { Sound (K.meaning kind.now) cells.now }
     requires live { Live cells.now root }
     requires few { cell_count cells.now root ≤ most }
-    requires some { 1 ≤ span (shape (K.meaning kind.now)) (tree cells.now root) }
+    requires some { 1 ≤ extent_of (K.meaning kind.now) (list cells.now root) }
     ensures { result ≡ offsets (K.meaning kind.now) (list cells.now root) rounds }
 {
-    let end = width_at(kind, cells, root) - 1;
+    let end = extent_at(kind, cells, root) - 1;
     let mut places = Places::new();
     let mut sum = 0u64;
     for _ in 0..rounds {
@@ -145,10 +144,10 @@ pub(crate) fn overviews<K: Kind>(
 ) -> u64
     requires sound { Sound (K.meaning kind.now) cells.now }
     requires live { Live cells.now root }
-    requires some { 1 ≤ span (shape (K.meaning kind.now)) (tree cells.now root) }
+    requires some { 1 ≤ extent_of (K.meaning kind.now) (list cells.now root) }
     ensures { result ≡ lengths (K.meaning kind.now) (list cells.now root) rounds }
 {
-    let end = width_at(kind, cells, root) - 1;
+    let end = extent_at(kind, cells, root) - 1;
     let mut places = Places::new();
     let mut sum = 0u64;
     for _ in 0..rounds {

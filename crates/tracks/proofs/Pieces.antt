@@ -8,11 +8,10 @@ use Rattle.faults.specs.declared.session.SessionFault.TheVariants.{BeyondEnd, Un
 use Rattle.kinds.specs.Kinds.{Meaning}
 use Rattle.kinds.specs.Places.{elements_of, extent, extent_of, put_at}
 use Rattle.balance.specs.Trees.{elements}
-use Rattle.balance.specs.Ways.{span}
 use Rattle.balance.specs.Levels.{most}
 use Rattle.cells.specs.declared.cell.Cell.{Cell}
 use Rattle.cells.specs.declared.pool.Pool.{Pool}
-use Rattle.cells.specs.Cells.{shape, cell_count, tree}
+use Rattle.cells.specs.Cells.{cell_count}
 use Rattle.cells.specs.References.{Arena}
 use Rattle.cells.specs.Moves.{Moves, Releases}
 use Rattle.cells.proofs.Staying.{stays_trans, count_stays, takes_trans, takes_more}
@@ -22,7 +21,7 @@ use Rattle.flat.specs.Refusals.{element_limit, cells_wanted, fault_if, first_of,
 use Rattle.flat.proofs.Acceptance.{not_above}
 use Rattle.splits.proofs.Nones.{none_leaf, moves_to_none}
 use Rattle.edits.specs.Edits.{list, insert_takes, Makes}
-use Rattle.edits.proofs.Roots.{list_stays, at_top, wide, top_count}
+use Rattle.edits.proofs.Roots.{list_stays, at_top, top_count}
 use Rattle.tracks.specs.declared.piece.Piece.{Piece}
 use Rattle.tracks.specs.Laying.{least_free, no_room_fault, made_of, not_laid, next_not_laid, Lays, Refuses, LaysAll}
 use Rattle.tracks.proofs.Counts.{put_end}
@@ -79,10 +78,7 @@ roomy x n free h =
 
 module _ {E A S : Type 0} {k : Meaning E A S} {a : List (Cell E S)} {p : Pool} {root : ℕ} {rs : List ℕ} (arena : Arena k a p (root ∷ rs)) (few : length (list a root) ≤ element_limit)
     (piece : Piece) {e : E} (made : Ok e ≡ k.made piece.first piece.second)
-    {w x n : ℕ} (width : w ≡ span (shape k) (tree a root)) (long : x ≡ extent k e) (counts : n ≡ cell_count a root) where
-  end_is : w ≡ extent_of k (list a root)
-  end_is = width ∙ wide k a root
-
+    {w x n : ℕ} (end_is : w ≡ extent_of k (list a root)) (long : x ≡ extent k e) (counts : n ≡ cell_count a root) where
   count_is : n ≡ length (list a root)
   count_is = counts ∙ top_count arena
 

@@ -7,11 +7,10 @@ use Rattle.faults.specs.declared.session.SessionFault.TheVariants.{BeyondEnd, Em
 use Rattle.kinds.specs.Kinds.{Meaning}
 use Rattle.kinds.specs.Places.{extent_of, put_at, without}
 use Rattle.kinds.proofs.Places.{taken_fewer}
-use Rattle.balance.specs.Ways.{span}
 use Rattle.balance.specs.Levels.{most}
 use Rattle.cells.specs.declared.cell.Cell.{Cell}
 use Rattle.cells.specs.declared.pool.Pool.{Pool}
-use Rattle.cells.specs.Cells.{shape, cell_count, tree}
+use Rattle.cells.specs.Cells.{cell_count}
 use Rattle.cells.specs.References.{Arena}
 use Rattle.cells.specs.Moves.{Moves, Releases}
 use Rattle.cells.proofs.Staying.{occurs_append, stays_trans, takes_more, takes_trans}
@@ -20,7 +19,7 @@ use Rattle.splits.specs.Owning.{Owns}
 use Rattle.flat.specs.Refusals.{element_limit, cells_wanted, fault_if, first_of, unless, is_empty, range_past_end, beyond_end, too_long, too_many, few_cells_fault}
 use Rattle.edits.specs.declared.removal.Removal.{Removal}
 use Rattle.edits.specs.Edits.{list, edit_takes, Makes, Cuts}
-use Rattle.edits.proofs.Roots.{list_stays, at_top, wide, top_count, lent_count, lent_less}
+use Rattle.edits.proofs.Roots.{list_stays, at_top, top_count, lent_count, lent_less}
 use Rattle.tracks.specs.Laying.{no_room_fault}
 use Rattle.tracks.specs.Moving.{not_taken, not_put, PutsIn}
 use Rattle.tracks.proofs.Pieces.{puts, puts_good, puts_bad, same_room, Roomy, roomy}
@@ -106,9 +105,9 @@ module _ {E A S : Type 0} (k : Meaning E A S) (a : List (Cell E S)) (p : Pool) (
 -- ---- taking a range out
 
 module _ {E A S : Type 0} {k : Meaning E A S} {a : List (Cell E S)} {p : Pool} {root n : ℕ} (owns : Owns k a p [] (root ∷ []) n) (few : length (list a root) ≤ element_limit)
-    (from len : ℕ) (some : len ≡ 0 → ⊥) {w : ℕ} (width : w ≡ span (shape k) (tree a root)) where
+    (from len : ℕ) (some : len ≡ 0 → ⊥) {w : ℕ} (width : w ≡ extent_of k (list a root)) where
   pub past_end : w < from + len → not_taken k (list a root) p.free from len ≡ Some RangePastEnd
-  past_end h = taken_past k (list a root) p.free from len some (omega (arith, wide k a root))
+  past_end h = taken_past k (list a root) p.free from len some (omega arith)
 
   module _ (inside : from + len ≤ w) {b : List (Cell E S)} {q : Pool} {r : Removal} (cuts : Cuts k a p b q r (list a root) from len edit_takes) where
     arena_b : Arena k b q (r.left ∷ r.taken ∷ owns.rest)
@@ -116,7 +115,7 @@ module _ {E A S : Type 0} {k : Meaning E A S} {a : List (Cell E S)} {p : Pool} {
 
     pub left_room : {m : ℕ} → m ≡ cell_count b r.left → not_taken k (list a root) p.free from len ≡ no_room_fault 0 m p.free
     left_room {m} counts =
-        taken_room k (list a root) p.free from len some (omega (arith, wide k a root))
+        taken_room k (list a root) p.free from len some (omega arith)
         ∙ same_room 0 0 (length (without k from len (list a root))) m p.free refl (omega (arith, top_count arena_b, ap length cuts.left))
 
     pub left_owned : (ys : List ℕ) × Arena k b q (r.left ∷ ys)
@@ -146,27 +145,27 @@ module _ {E A S : Type 0} {k : Meaning E A S} {a : List (Cell E S)} {p : Pool} {
 -- ---- putting a list in
 
 module _ {E A S : Type 0} {k : Meaning E A S} {a : List (Cell E S)} {p : Pool} {root clip n : ℕ} (owns : Owns k a p [] (root ∷ clip ∷ []) n)
-    (place : ℕ) {w : ℕ} (width : w ≡ span (shape k) (tree a root)) where
+    (place : ℕ) {w : ℕ} (width : w ≡ extent_of k (list a root)) where
   pub beyond : w < place → not_put k (list a root) (list a clip) p.free place ≡ Some BeyondEnd
-  beyond h = put_beyond k (list a root) (list a clip) p.free place (omega (arith, wide k a root))
+  beyond h = put_beyond k (list a root) (list a clip) p.free place (omega arith)
 
   module _ (inside : place ≤ w) {m : ℕ} (more : m ≡ cell_count a clip) where
     clip_is : m ≡ length (list a clip)
     clip_is = more ∙ lent_count (lent_less owns)
 
     pub no_clip : m ≡ 0 → not_put k (list a root) (list a clip) p.free place ≡ Some ClipboardEmpty
-    no_clip h = put_none k (list a root) (list a clip) p.free place (omega (arith, wide k a root)) (omega (arith, clip_is))
+    no_clip h = put_none k (list a root) (list a clip) p.free place (omega arith) (omega (arith, clip_is))
 
-    module _ (some : m ≡ 0 → ⊥) {v : ℕ} (clip_width : v ≡ span (shape k) (tree a clip)) {h e : ℕ} (had : h ≡ cell_count a root) (capped : e ≡ min (h + m) 4294967295) where
+    module _ (some : m ≡ 0 → ⊥) {v : ℕ} (clip_width : v ≡ extent_of k (list a clip)) {h e : ℕ} (had : h ≡ cell_count a root) (capped : e ≡ min (h + m) 4294967295) where
       long : w + v ≡ extent_of k (list a root) + extent_of k (list a clip)
-      long = omega (arith, wide k a root, wide k a clip)
+      long = omega arith
 
       counts : h + m ≡ length (list a root) + length (list a clip)
       counts = omega (arith, lent_count owns, clip_is)
 
       put_is : not_put k (list a root) (list a clip) p.free place ≡ no_room_fault (w + v) (length (put_at k place (list a clip) (list a root))) p.free
       put_is =
-          put_room k (list a root) (list a clip) p.free place (omega (arith, wide k a root)) (omega (arith, clip_is))
+          put_room k (list a root) (list a clip) p.free place (omega arith) (omega (arith, clip_is))
           ∙ ap (λ x. no_room_fault x (length (put_at k place (list a clip) (list a root))) p.free) (sym long)
 
       -- too much before it is divided

@@ -7,11 +7,10 @@ ghost use Rattle.tracks.specs.Laying.{no_room_fault, not_laid, Lays, Refuses, La
 
 use crate::piece::{Laid, Piece};
 use cells::{Cell, Pool, count_at, release};
-use edits::insert;
+use edits::{extent_at, insert};
 use faults::SessionFault;
 use kinds::Kind;
 use splits::NONE;
-use walks::width_at;
 
 // Whether anything stands against a list of such an extent and so many elements, with so many cells free before it is
 // made.
@@ -49,7 +48,7 @@ pub fn lay<K: Kind>(
         cells.old pool.old cells.new pool.new) }
 {
     let element = kind.make(piece.first, piece.second)?;
-    let end = width_at(kind, cells, root);
+    let end = extent_at(kind, cells, root);
     let extent = end + kind.extent(element);
     let elements = count_at(cells, root) + 1;
     room(extent, elements, pool.free)?;

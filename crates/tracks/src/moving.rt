@@ -7,10 +7,9 @@ ghost use Rattle.tracks.specs.Moving.{not_taken, not_put, TakesOut, PutsIn, Decl
 
 use crate::laying::room;
 use cells::{Cell, Pool, count_at, release};
-use edits::{Removal, cut, put};
+use edits::{Removal, cut, extent_at, put};
 use faults::SessionFault;
 use kinds::Kind;
-use walks::width_at;
 
 // Takes a range out of the list of `root`, which stays. How many elements would be left is known only once they are, so
 // what was made is given back where they are too many.
@@ -33,7 +32,7 @@ pub fn take_out<K: Kind>(
     if len == 0 {
         return Err(SessionFault::EmptyRange);
     }
-    if from as u64 + len as u64 > width_at(kind, cells, root) as u64 {
+    if from as u64 + len as u64 > extent_at(kind, cells, root) as u64 {
         return Err(SessionFault::RangePastEnd);
     }
     let free = pool.free;
@@ -62,7 +61,7 @@ pub fn put_in<K: Kind>(
         (Declines (K.meaning kind.now) (not_put (K.meaning kind.now) (list cells.old root) (list cells.old clip) pool.old.free place)
         cells.old pool.old cells.new pool.new) }
 {
-    let end = width_at(kind, cells, root);
+    let end = extent_at(kind, cells, root);
     if place > end {
         return Err(SessionFault::BeyondEnd);
     }
@@ -70,7 +69,7 @@ pub fn put_in<K: Kind>(
     if more == 0 {
         return Err(SessionFault::ClipboardEmpty);
     }
-    let extent = end + width_at(kind, cells, clip);
+    let extent = end + extent_at(kind, cells, clip);
     let elements = count_at(cells, root).saturating_add(more);
     room(extent, elements, 2048)?;
     let free = pool.free;

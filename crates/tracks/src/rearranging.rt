@@ -14,11 +14,11 @@ use crate::piece::Piece;
 use crate::shift::Shift;
 use crate::version::{Made, Rearranged, Version, Versions};
 use cells::{Cell, Pool, count_at, free, release, start};
+use edits::extent_at;
 use faults::SessionFault;
 use kinds::Kind;
 use profile::SurveyFault;
 use std::alloc::Global;
-use walks::width_at;
 
 // Starts a pool over cells, if they are not too few or too many.
 fn open<K: Kind>(kind: &K, cells: &mut [Cell<K::Element, K::Summary>]) -> Result<Pool, SessionFault>
@@ -84,7 +84,7 @@ fn version_of<K: Kind>(
 {
     Version {
         elements: count_at(cells, made.root),
-        extent: width_at(kind, cells, made.root),
+        extent: extent_at(kind, cells, made.root),
         took: made.took,
     }
 }

@@ -1,13 +1,13 @@
 use Rattle.std.proofs.Common.{ℕ, [], length, ap, ◌∙◌, arith}
 use Rattle.edits.specs.Edits.{list}
-use Rattle.edits.proofs.Roots.{at_top, lent_live, wide}
+use Rattle.edits.proofs.Roots.{at_top, lent_live}
 use Rattle.paces.specs.Sums.{step, cut_from}
 use Rattle.paces.proofs.Sums.{left_more, sum_more, cut_told}
 use Rattle.paces.proofs.Onces.{rests_owns, rests_list, rests_free, rests_then}
 use Rattle.paces.proofs.rounds.cuts.Goals as goal
 
-pub width_at-end-requires : goal.width_at-end-requires
-width_at-end-requires g c = record { sound = c.requires.owns.arena.sound; live = lent_live c.requires.owns }
+pub extent_at-end-requires : goal.extent_at-end-requires
+extent_at-end-requires g c = record { sound = c.requires.owns.arena.sound; live = lent_live c.requires.owns }
 
 pub cut_once-n-requires : goal.cut_once-n-requires
 cut_once-n-requires g c = record {
@@ -20,7 +20,7 @@ pub loop-preserved : goal.loop-preserved
 loop-preserved g c =
     let k = g.K.Kind.meaning c.args.kind.now in
     let root = rests_list c.requires.owns c.loop.invariant.rests c.args.root (at_top c.args.root []) in
-    let end = c.width_at-end.ensures ∙ wide k c.args.cells.now c.args.root in
+    let end = c.extent_at-end.ensures in
     let gives = cut_from k (list c.args.cells.now c.args.root) in
     let after = λ (s : ℕ). step (step s) in
     record {

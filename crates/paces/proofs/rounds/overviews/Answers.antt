@@ -9,12 +9,12 @@ use Rattle.paces.proofs.rounds.overviews.Goals as goal
 pub loop-preserved : goal.loop-preserved
 loop-preserved g c =
     let k = g.K.Kind.meaning c.args.kind.now in
-    let is : c.width_at-end.result - 1 ≡ extent_of k (list c.args.cells.now c.args.root) - 1 = omega (arith, c.width_at-end.ensures, wide k c.args.cells.now c.args.root) in
+    let is : c.extent_at-end.result - 1 ≡ extent_of k (list c.args.cells.now c.args.root) - 1 = omega (arith, c.extent_at-end.ensures) in
     let gives = length_from k (list c.args.cells.now c.args.root) in
     let told = length_told k c.args.cells.now c.args.root is c.loop.places.state c.next-from.ensures.state c.next-from.ensures.place c.next-len.ensures.state c.next-len.ensures.place in
     let width : c.width.result ≡ c.next-len.result + 1 =
     c.width.ensures ∙ ap k.width c.overview-s.ensures
-    ∙ width_found k (g.K.Kind.laws c.args.kind.now) c.args.cells.now c.requires.sound c.args.root c.requires.live c.next-from.result (c.next-len.result + 1) (omega (arith, c.width_at-end.ensures, c.next-from.ensures.inside, c.next-len.ensures.inside)) in
+    ∙ width_found k (g.K.Kind.laws c.args.kind.now) c.args.cells.now c.requires.sound c.args.root c.requires.live c.next-from.result (c.next-len.result + 1) (omega (arith, c.extent_at-end.ensures, c.next-from.ensures.inside, c.next-len.ensures.inside)) in
     let after = λ (s : ℕ). step (step s) in
     record {
       state = left_more after gives c.loop.counter c.loop.invariant.state (c.next-len.ensures.state ∙ ap step c.next-from.ensures.state);

@@ -2,14 +2,14 @@ use Rattle.std.proofs.Common.{length, ap, ◌∙◌, arith}
 use Rattle.kinds.specs.Places.{extent_of}
 use Rattle.cells.proofs.Names.{hit_same}
 use Rattle.edits.specs.Edits.{list}
-use Rattle.edits.proofs.Roots.{lent_live, wide}
+use Rattle.edits.proofs.Roots.{lent_live}
 use Rattle.paces.specs.Sums.{step, put_from}
 use Rattle.paces.proofs.Sums.{left_more, sum_more, put_told}
 use Rattle.paces.proofs.Onces.{rests_owns, rests_list, rests_free, rests_then}
 use Rattle.paces.proofs.rounds.puts.Goals as goal
 
-pub width_at-end-requires : goal.width_at-end-requires
-width_at-end-requires g c = record { sound = c.requires.owns.arena.sound; live = lent_live c.requires.owns }
+pub extent_at-end-requires : goal.extent_at-end-requires
+extent_at-end-requires g c = record { sound = c.requires.owns.arena.sound; live = lent_live c.requires.owns }
 
 pub put_once-n-requires : goal.put_once-n-requires
 put_once-n-requires g c =
@@ -27,7 +27,7 @@ loop-preserved g c =
     let k = g.K.Kind.meaning c.args.kind.now in
     let root = rests_list c.requires.owns c.loop.invariant.rests c.args.root (let h = hit_same c.args.root in omega arith) in
     let clip = rests_list c.requires.owns c.loop.invariant.rests c.args.clip (let h = hit_same c.args.clip in omega arith) in
-    let end = c.width_at-end.ensures ∙ wide k c.args.cells.now c.args.root in
+    let end = c.extent_at-end.ensures in
     let gives = put_from k (list c.args.cells.now c.args.root) (list c.args.cells.now c.args.clip) in
     record {
       rests = rests_then k c.args.cells.now c.args.pool.now c.loop.cells c.loop.pool c.put_once-n.new.cells c.put_once-n.new.pool c.loop.invariant.rests c.put_once-n.ensures.rests;

@@ -9,7 +9,7 @@ use Rattle.paces.proofs.rounds.reads.Goals as goal
 pub loop-preserved : goal.loop-preserved
 loop-preserved g c =
     let k = g.K.Kind.meaning c.args.kind.now in
-    let is : c.width_at-end.result - 1 ≡ extent_of k (list c.args.cells.now c.args.root) - 1 = omega (arith, c.width_at-end.ensures, wide k c.args.cells.now c.args.root) in
+    let is : c.extent_at-end.result - 1 ≡ extent_of k (list c.args.cells.now c.args.root) - 1 = omega (arith, c.extent_at-end.ensures) in
     let gives = offset_from k (list c.args.cells.now c.args.root) in
     record {
       state = left_more step gives c.loop.counter c.loop.invariant.state c.next.ensures.state;

@@ -4,49 +4,49 @@ use Rattle.edits.proofs.Roots.{lent_live, lent_short, lent_less}
 use Rattle.tracks.proofs.Ranges.{unmoved, beyond, no_clip, too_much, put_few, put_short, new_room, new_owned, new_few, new_back, puts_in}
 use Rattle.tracks.proofs.moving.put_in.Goals as goal
 
-pub width_at-end-requires : goal.width_at-end-requires
-width_at-end-requires g c = record { sound = c.requires.owns.arena.sound; live = lent_live c.requires.owns }
+pub extent_at-end-requires : goal.extent_at-end-requires
+extent_at-end-requires g c = record { sound = c.requires.owns.arena.sound; live = lent_live c.requires.owns }
 
 pub returns-then-place-end : goal.returns-then-place-end
 returns-then-place-end g c = record {
-  because = beyond c.requires.owns c.args.place c.width_at-end.ensures (omega arith);
+  because = beyond c.requires.owns c.args.place c.extent_at-end.ensures (omega arith);
   each = unmoved (g.K.Kind.meaning c.args.kind.now) c.args.cells.now c.args.pool.now;
 }
 
 pub returns-then-more-eq0 : goal.returns-then-more-eq0
 returns-then-more-eq0 g c = record {
-  because = no_clip c.requires.owns c.args.place c.width_at-end.ensures (omega arith) c.count_at-more.ensures (omega arith);
+  because = no_clip c.requires.owns c.args.place c.extent_at-end.ensures (omega arith) c.count_at-more.ensures (omega arith);
   each = unmoved (g.K.Kind.meaning c.args.kind.now) c.args.cells.now c.args.pool.now;
 }
 
-pub width_at-requires : goal.width_at-requires
-width_at-requires g c = record { sound = c.requires.owns.arena.sound; live = lent_live (lent_less c.requires.owns) }
+pub extent_at-requires : goal.extent_at-requires
+extent_at-requires g c = record { sound = c.requires.owns.arena.sound; live = lent_live (lent_less c.requires.owns) }
 
 pub overflow_add-extent : goal.overflow_add-extent
-overflow_add-extent g c = record { fits = omega (arith, c.width_at-end.ensures, c.width_at.ensures, lent_short c.requires.owns, lent_short (lent_less c.requires.owns)) }
+overflow_add-extent g c = record { fits = omega (arith, c.extent_at-end.ensures, c.extent_at.ensures, lent_short c.requires.owns, lent_short (lent_less c.requires.owns)) }
 
 pub returns-in_err-room : goal.returns-in_err-room
 returns-in_err-room g c =
     let p = err_from_is_err_and c.from_residual.result c.from_residual.ensures.1 in
     rw (p.1, p.2) (record {
-      because = too_much c.requires.owns c.args.place c.width_at-end.ensures (omega arith) c.count_at-more.ensures (λ z. omega arith) c.width_at.ensures c.count_at.ensures c.saturating_add-elements.ensures c.in_err-room.ensures;
+      because = too_much c.requires.owns c.args.place c.extent_at-end.ensures (omega arith) c.count_at-more.ensures (λ z. omega arith) c.extent_at.ensures c.count_at.ensures c.saturating_add-elements.ensures c.in_err-room.ensures;
       each = unmoved (g.K.Kind.meaning c.args.kind.now) c.args.cells.now c.args.pool.now;
     })
 
 pub put-r-requires-clause-few : goal.put-r-requires-clause-few
-put-r-requires-clause-few g c = put_few c.requires.owns c.args.place c.width_at-end.ensures (omega arith) c.count_at-more.ensures (λ z. omega arith) c.width_at.ensures c.count_at.ensures c.saturating_add-elements.ensures c.in_ok-room.ensures
+put-r-requires-clause-few g c = put_few c.requires.owns c.args.place c.extent_at-end.ensures (omega arith) c.count_at-more.ensures (λ z. omega arith) c.extent_at.ensures c.count_at.ensures c.saturating_add-elements.ensures c.in_ok-room.ensures
 
 pub put-r-requires-clause-short : goal.put-r-requires-clause-short
-put-r-requires-clause-short g c = put_short c.requires.owns c.args.place c.width_at-end.ensures (omega arith) c.count_at-more.ensures (λ z. omega arith) c.width_at.ensures c.count_at.ensures c.saturating_add-elements.ensures c.in_ok-room.ensures
+put-r-requires-clause-short g c = put_short c.requires.owns c.args.place c.extent_at-end.ensures (omega arith) c.count_at-more.ensures (λ z. omega arith) c.extent_at.ensures c.count_at.ensures c.saturating_add-elements.ensures c.in_ok-room.ensures
 
 pub release-requires : goal.release-requires
-release-requires g c = record { owned = new_owned c.requires.owns c.args.place c.width_at-end.ensures (omega arith) c.count_at-more.ensures (λ z. omega arith) c.width_at.ensures c.count_at.ensures c.saturating_add-elements.ensures c.in_ok-room.ensures c.put-r.ensures; few = new_few c.requires.owns c.args.place c.width_at-end.ensures (omega arith) c.count_at-more.ensures (λ z. omega arith) c.width_at.ensures c.count_at.ensures c.saturating_add-elements.ensures c.in_ok-room.ensures c.put-r.ensures }
+release-requires g c = record { owned = new_owned c.requires.owns c.args.place c.extent_at-end.ensures (omega arith) c.count_at-more.ensures (λ z. omega arith) c.extent_at.ensures c.count_at.ensures c.saturating_add-elements.ensures c.in_ok-room.ensures c.put-r.ensures; few = new_few c.requires.owns c.args.place c.extent_at-end.ensures (omega arith) c.count_at-more.ensures (λ z. omega arith) c.extent_at.ensures c.count_at.ensures c.saturating_add-elements.ensures c.in_ok-room.ensures c.put-r.ensures }
 
 pub returns-in-Err : goal.returns-in-Err
 returns-in-Err g c = record {
-  because = new_room c.requires.owns c.args.place c.width_at-end.ensures (omega arith) c.count_at-more.ensures (λ z. omega arith) c.width_at.ensures c.count_at.ensures c.saturating_add-elements.ensures c.in_ok-room.ensures c.put-r.ensures c.count_at-2.ensures ∙ c.in-Err.ensures;
-  each = new_back c.requires.owns c.args.place c.width_at-end.ensures (omega arith) c.count_at-more.ensures (λ z. omega arith) c.width_at.ensures c.count_at.ensures c.saturating_add-elements.ensures c.in_ok-room.ensures c.put-r.ensures c.release.new.cells c.release.new.pool c.release.ensures;
+  because = new_room c.requires.owns c.args.place c.extent_at-end.ensures (omega arith) c.count_at-more.ensures (λ z. omega arith) c.extent_at.ensures c.count_at.ensures c.saturating_add-elements.ensures c.in_ok-room.ensures c.put-r.ensures c.count_at-2.ensures ∙ c.in-Err.ensures;
+  each = new_back c.requires.owns c.args.place c.extent_at-end.ensures (omega arith) c.count_at-more.ensures (λ z. omega arith) c.extent_at.ensures c.count_at.ensures c.saturating_add-elements.ensures c.in_ok-room.ensures c.put-r.ensures c.release.new.cells c.release.new.pool c.release.ensures;
 }
 
 pub returns : goal.returns
-returns g c = puts_in c.requires.owns c.args.place c.width_at-end.ensures (omega arith) c.count_at-more.ensures (λ z. omega arith) c.width_at.ensures c.count_at.ensures c.saturating_add-elements.ensures c.in_ok-room.ensures c.put-r.ensures c.count_at-2.ensures c.in_default.ensures
+returns g c = puts_in c.requires.owns c.args.place c.extent_at-end.ensures (omega arith) c.count_at-more.ensures (λ z. omega arith) c.extent_at.ensures c.count_at.ensures c.saturating_add-elements.ensures c.in_ok-room.ensures c.put-r.ensures c.count_at-2.ensures c.in_default.ensures

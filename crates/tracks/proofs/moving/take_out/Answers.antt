@@ -10,33 +10,33 @@ returns-then-len-eq0 g c = record {
   each = unmoved (g.K.Kind.meaning c.args.kind.now) c.args.cells.now c.args.pool.now;
 }
 
-pub width_at-requires : goal.width_at-requires
-width_at-requires g c = record { sound = c.requires.owns.arena.sound; live = lent_live c.requires.owns }
+pub extent_at-requires : goal.extent_at-requires
+extent_at-requires g c = record { sound = c.requires.owns.arena.sound; live = lent_live c.requires.owns }
 
 pub returns-then-from-len : goal.returns-then-from-len
 returns-then-from-len g c = record {
-  because = past_end c.requires.owns c.requires.few c.args.from c.args.len (λ z. omega arith) c.width_at.ensures (omega arith);
+  because = past_end c.requires.owns c.requires.few c.args.from c.args.len (λ z. omega arith) c.extent_at.ensures (omega arith);
   each = unmoved (g.K.Kind.meaning c.args.kind.now) c.args.cells.now c.args.pool.now;
 }
 
 pub release-requires : goal.release-requires
-release-requires g c = record { owned = left_owned c.requires.owns c.requires.few c.args.from c.args.len (λ z. omega arith) c.width_at.ensures (omega arith) c.cut-r.ensures; few = left_few c.requires.owns c.requires.few c.args.from c.args.len (λ z. omega arith) c.width_at.ensures (omega arith) c.cut-r.ensures }
+release-requires g c = record { owned = left_owned c.requires.owns c.requires.few c.args.from c.args.len (λ z. omega arith) c.extent_at.ensures (omega arith) c.cut-r.ensures; few = left_few c.requires.owns c.requires.few c.args.from c.args.len (λ z. omega arith) c.extent_at.ensures (omega arith) c.cut-r.ensures }
 
 pub release-requires-in-Err : goal.release-requires-in-Err
 release-requires-in-Err g c = record {
-  owned = taken_owned c.requires.owns c.requires.few c.args.from c.args.len (λ z. omega arith) c.width_at.ensures (omega arith) c.cut-r.ensures c.release.new.cells c.release.new.pool c.release.ensures;
-  few = taken_few c.requires.owns c.requires.few c.args.from c.args.len (λ z. omega arith) c.width_at.ensures (omega arith) c.cut-r.ensures c.release.new.cells c.release.new.pool c.release.ensures;
+  owned = taken_owned c.requires.owns c.requires.few c.args.from c.args.len (λ z. omega arith) c.extent_at.ensures (omega arith) c.cut-r.ensures c.release.new.cells c.release.new.pool c.release.ensures;
+  few = taken_few c.requires.owns c.requires.few c.args.from c.args.len (λ z. omega arith) c.extent_at.ensures (omega arith) c.cut-r.ensures c.release.new.cells c.release.new.pool c.release.ensures;
 }
 
 pub returns-in-Err : goal.returns-in-Err
 returns-in-Err g c = record {
-  because = left_room c.requires.owns c.requires.few c.args.from c.args.len (λ z. omega arith) c.width_at.ensures (omega arith) c.cut-r.ensures c.count_at.ensures ∙ c.in-Err.ensures;
-  each = both_back c.requires.owns c.requires.few c.args.from c.args.len (λ z. omega arith) c.width_at.ensures (omega arith) c.cut-r.ensures c.release.new.cells c.release.new.pool c.release.ensures c.release-in-Err.new.cells c.release-in-Err.new.pool c.release-in-Err.ensures;
+  because = left_room c.requires.owns c.requires.few c.args.from c.args.len (λ z. omega arith) c.extent_at.ensures (omega arith) c.cut-r.ensures c.count_at.ensures ∙ c.in-Err.ensures;
+  each = both_back c.requires.owns c.requires.few c.args.from c.args.len (λ z. omega arith) c.extent_at.ensures (omega arith) c.cut-r.ensures c.release.new.cells c.release.new.pool c.release.ensures c.release-in-Err.new.cells c.release-in-Err.new.pool c.release-in-Err.ensures;
 }
 
 pub returns : goal.returns
 returns g c = record {
-  accepted = left_room c.requires.owns c.requires.few c.args.from c.args.len (λ z. omega arith) c.width_at.ensures (omega arith) c.cut-r.ensures c.count_at.ensures ∙ c.in_default.ensures;
+  accepted = left_room c.requires.owns c.requires.few c.args.from c.args.len (λ z. omega arith) c.extent_at.ensures (omega arith) c.cut-r.ensures c.count_at.ensures ∙ c.in_default.ensures;
   each = c.cut-r.ensures.each;
   left = c.cut-r.ensures.left;
   range = c.cut-r.ensures.range;
