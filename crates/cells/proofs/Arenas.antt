@@ -1,7 +1,8 @@
 -- The invariant over cells, pool and roots, before and after each write.
-use Rattle.std.proofs.Common.{◌≡◌, ℕ, ◌+◌, ◌-◌, ◌^◌, ◌<◌, ◌≤◌, true, false, ◌≢◌, List, [], ◌∷◌, length, set, Some, None, Option, sym, refl, ap, ◌∙◌, subst, ⊎_elim, add-one, arith, length-set}
+use Rattle.std.proofs.Common.{◌≡◌, ℕ, ◌+◌, ◌-◌, ◌^◌, ◌<◌, ◌≤◌, ◌≢◌, List, [], ◌∷◌, length, get_or, set, Some, None, Option, sym, refl, ap, ◌∙◌, subst, ⊎_elim, add-one, arith, length-set}
 use Rattle.std.specs.List.{slice_get}
 use Rattle.std.proofs.lemmas.Bool.{cases_eq}
+use Rattle.std.proofs.lemmas.Option.{get_or_from_slice_get}
 use Rattle.kinds.specs.Kinds.{Meaning}
 use Rattle.cells.specs.declared.cell.Cell.{Cell}
 use Rattle.cells.specs.declared.pool.Pool.{Pool}
@@ -111,9 +112,22 @@ module _ {E A S : Type 0} (k : Meaning E A S) (a : List (Cell E S)) (i : ℕ) (c
         long = omega (arith, arena.long);
       }
 
+-- the references of the cell i are written in place
+written : {E S : Type 0} (a : List (Cell E S)) (i : ℕ) (c x y : Cell E S) (f : ℕ → ℕ) → slice_get a i ≡ Some c
+    → set a i (with_refs (get_or a i y) (f (get_or a i x).refs)) ≡ set a i (with_refs c (f c.refs))
+written a i c x y f at = ap (λ d. set a i (with_refs d (f (get_or a i x).refs))) (get_or_from_slice_get a i c y at) ∙ ap (λ d. set a i (with_refs c (f d.refs))) (get_or_from_slice_get a i c x at)
+
+pub one_fewer : {E S : Type 0} (a : List (Cell E S)) (i : ℕ) (c x y : Cell E S) → slice_get a i ≡ Some c
+    → set a i (with_refs (get_or a i y) ((get_or a i x).refs - 1)) ≡ set a i (with_refs c (c.refs - 1))
+one_fewer a i c x y at = written a i c x y (λ n. n - 1) at
+
+pub one_more : {E S : Type 0} (a : List (Cell E S)) (i : ℕ) (c x y : Cell E S) → slice_get a i ≡ Some c
+    → set a i (with_refs (get_or a i y) ((get_or a i x).refs + 1)) ≡ retained a i
+one_more a i c x y at = written a i c x y (λ n. n + 1) at ∙ sym (ap (retained_at a i) at)
+
 -- ---- retaining
 
-module _ {E A S : Type 0} (k : Meaning E A S) (a : List (Cell E S)) (i : ℕ) where
+module _ {E A S : Type 0} {k : Meaning E A S} {a : List (Cell E S)} {i : ℕ} where
   retains_at : (o : Option (Cell E S)) → slice_get a i ≡ o → linked o → Retains k a i (retained_at a i o)
   retains_at None e live = record {
     each = λ p rs arena. record {
@@ -137,8 +151,8 @@ module _ {E A S : Type 0} (k : Meaning E A S) (a : List (Cell E S)) (i : ℕ) wh
         here = λ p rs arena. remains_stays k a arena.sound (set a i (with_refs c n)) remains i (subst linked (sym e) live);
       }
 
-  pub retains : (b : List (Cell E S)) → b ≡ retained a i → Live a i → Retains k a i b
-  retains b e live = subst (Retains k a i) (sym e) (retains_at (slice_get a i) refl live)
+  pub retains : {b : List (Cell E S)} → b ≡ retained a i → Live a i → Retains k a i b
+  retains e live = subst (Retains k a i) (sym e) (retains_at (slice_get a i) refl live)
 
 -- ---- giving up
 
@@ -148,61 +162,73 @@ count_set a x c d at same j = ⊎_elim
     (λ ne. ap counted (nth_set_other a x j d ne))
     (cases_eq j x)
 
+-- the link names no cell
+pub given_up_none : {E A S : Type 0} {k : Meaning E A S} {a : List (Cell E S)} {p : Pool} {i : ℕ} → length a ≤ i → GivesUp k a p i a p None
+given_up_none {k} {a} {p} {i} past = record {
+  was = tt;
+  each = λ rs arena. rerooted k a p (i ∷ rs) arena rs (λ j h. let o = hit_other i j (λ q. omega arith) in omega arith);
+  takes = takes_refl a 0;
+  same_counts = λ j. refl;
+  uses = omega arith;
+  frees = omega arith;
+}
+
+-- the cell c as the first free one, before those of the pool
+abbrev first_free : {E S : Type 0} → Pool → Cell E S → Cell E S
+first_free p c = record { element = c.element; own = c.own; left = p.head; right = c.right; count = c.count; summary = c.summary; refs = 0 }
+
 module _ {E A S : Type 0} (k : Meaning E A S) (a : List (Cell E S)) (p : Pool) (i : ℕ) (c : Cell E S) (at : slice_get a i ≡ Some c) where
+  counted_freed : (rs : List ℕ) → c.refs ≡ 1 → Counted a (i ∷ rs) → Counted (set a i (first_free p c)) (c.left ∷ c.right ∷ rs)
+  counted_freed rs one counts j within =
+      let l = links_set a i c (first_free p c) j at in
+      let lc = links_live c.refs c j (omega arith) in
+      let o = counts j (simp length-set at within) in
+      ⊎_elim
+      (λ q. let h = ap (λ x. hit x j) (sym q) ∙ hit_same j in
+      let now = ap (refs_at (set a i (first_free p c))) q ∙ ap referred (nth_set_same a i (first_free p c) (some_in a i c at)) in
+      let was = ap (refs_at a) q ∙ ap referred at in
+      omega arith)
+      (λ ne. let h = hit_other i j ne in let same = ap referred (nth_set_other a i j (first_free p c) ne) in omega arith)
+      (cases_eq j i)
+
+  arena_freed : (rs : List ℕ) → c.refs ≡ 1 → Arena k a p (i ∷ rs) → Arena k (set a i (first_free p c)) (record { head = i; free = p.free + 1 }) (c.left ∷ c.right ∷ rs)
+  arena_freed rs one arena =
+      let u = used_set a i c (first_free p c) at in
+      let l = length-set a i (first_free p c) in
+      let n = arena.counts i (some_in a i c at) in
+      let r = ap referred at in
+      let h = hit_same i in
+      record {
+        sound = sound_freed k a i c at (first_free p c) arena.sound (omega arith) refl;
+        counts = counted_freed rs one arena.counts;
+        chain = subst (λ m. Chain m (set a i (first_free p c)) i) (sym (add-one p.free))
+            (first_free p c, nth_set_same a i (first_free p c) (some_in a i c at), refl, chain_kept a i (first_free p c) c at (omega arith) p.free p.head arena.chain);
+        all = omega (arith, arena.all);
+        long = omega (arith, arena.long);
+      }
+
+module _ {E A S : Type 0} {k : Meaning E A S} {a : List (Cell E S)} {p : Pool} {i : ℕ} {c : Cell E S} (at : slice_get a i ≡ Some c) where
   -- the cell has another reference
-  pub given_up_one : (b : List (Cell E S)) → b ≡ set a i (with_refs c (c.refs - 1)) → 1 < c.refs → GivesUp k a p i b p false
-  given_up_one b e more =
+  pub given_up_one : {b : List (Cell E S)} → b ≡ set a i (with_refs c (c.refs - 1)) → 1 < c.refs → GivesUp k a p i b p None
+  given_up_one e more =
       let n : ℕ = c.refs - 1 in
-      subst (λ x. GivesUp k a p i x p false) (sym e) (record {
-        each = λ f rs is arena. arena_recounted k a i c at n p (i ∷ rs) rs arena (omega arith) (omega arith) (let h = hit_same i in omega arith) (λ j ne. let h = hit_other i j ne in omega arith);
+      subst (λ x. GivesUp k a p i x p None) (sym e) (record {
+        was = tt;
+        each = λ rs arena. arena_recounted k a i c at n p (i ∷ rs) rs arena (omega arith) (omega arith) (let h = hit_same i in omega arith) (λ j ne. let h = hit_other i j ne in omega arith);
         takes = takes_none a (set a i (with_refs c n)) (remained_recounted k a i c at (with_refs c n) (same_back k a i c at n) (omega arith)) 0;
         same_counts = count_set a i c (with_refs c n) at refl;
         uses = let u = used_set a i c (with_refs c n) at in omega arith;
         frees = omega arith;
       })
 
-  -- it was the last: the cell is the first free one
-  abbrev pub freed : Cell E S
-  freed = record { element = c.element; own = c.own; left = p.head; right = c.right; count = c.count; summary = c.summary; refs = 0 }
-
-  counted_freed : (rs : List ℕ) → c.refs ≡ 1 → Counted a (i ∷ rs) → Counted (set a i freed) (c.left ∷ c.right ∷ rs)
-  counted_freed rs one counts j within =
-      let l = links_set a i c freed j at in
-      let lc = links_live c.refs c j (omega arith) in
-      let o = counts j (simp length-set at within) in
-      ⊎_elim
-      (λ q. let h = ap (λ x. hit x j) (sym q) ∙ hit_same j in
-      let now = ap (refs_at (set a i freed)) q ∙ ap referred (nth_set_same a i freed (some_in a i c at)) in
-      let was = ap (refs_at a) q ∙ ap referred at in
-      omega arith)
-      (λ ne. let h = hit_other i j ne in let same = ap referred (nth_set_other a i j freed ne) in omega arith)
-      (cases_eq j i)
-
-  arena_freed : (rs : List ℕ) → c.refs ≡ 1 → Arena k a p (i ∷ rs) → Arena k (set a i freed) (record { head = i; free = p.free + 1 }) (c.left ∷ c.right ∷ rs)
-  arena_freed rs one arena =
-      let u = used_set a i c freed at in
-      let l = length-set a i freed in
-      let n = arena.counts i (some_in a i c at) in
-      let r = ap referred at in
-      let h = hit_same i in
-      record {
-        sound = sound_freed k a i c at freed arena.sound (omega arith) refl;
-        counts = counted_freed rs one arena.counts;
-        chain = subst (λ m. Chain m (set a i freed) i) (sym (add-one p.free))
-            (freed, nth_set_same a i freed (some_in a i c at), refl, chain_kept a i freed c at (omega arith) p.free p.head arena.chain);
-        all = omega (arith, arena.all);
-        long = omega (arith, arena.long);
-      }
-
-  pub given_up_last : (b : List (Cell E S)) → b ≡ set a i freed → c.refs ≡ 1 → GivesUp k a p i b (record { head = i; free = p.free + 1 }) true
-  given_up_last b e one =
-      subst (λ x. GivesUp k a p i x (record { head = i; free = p.free + 1 }) true) (sym e) (record {
-        each = λ f rs is arena.
-            let s : Some c ≡ Some f = sym at ∙ is in
-            let cf : c ≡ f = cc in
-            subst (λ x. Arena k (set a i freed) (record { head = i; free = p.free + 1 }) (x.left ∷ x.right ∷ rs)) cf (arena_freed rs one arena);
-        takes = takes_none a (set a i freed) (remained_freed k a i c at freed refl) 0;
-        same_counts = count_set a i c freed at refl;
-        uses = let u = used_set a i c freed at in omega arith;
+  -- it was the last
+  pub given_up_last : {b : List (Cell E S)} → b ≡ set a i (first_free p c) → c.refs ≡ 1 → GivesUp k a p i b (record { head = i; free = p.free + 1 }) (Some c)
+  given_up_last e one =
+      subst (λ x. GivesUp k a p i x (record { head = i; free = p.free + 1 }) (Some c)) (sym e) (record {
+        was = at;
+        each = λ rs arena. arena_freed k a p i c at rs one arena;
+        takes = takes_none a (set a i (first_free p c)) (remained_freed k a i c at (first_free p c) refl) 0;
+        same_counts = count_set a i c (first_free p c) at refl;
+        uses = let u = used_set a i c (first_free p c) at in omega arith;
         frees = omega arith;
       })

@@ -35,8 +35,8 @@ first_at (suc n) a p e some c =
 pub first : {E A S : Type 0} (k : Meaning E A S) (a : List (Cell E S)) (p : Pool) (rs : List ℕ) → Arena k a p rs → 0 < p.free → First a p
 first k a p rs arena some = first_at p.free a p refl some arena.chain
 
-pub first_inside : {E A S : Type 0} (k : Meaning E A S) (a : List (Cell E S)) (p : Pool) (rs : List ℕ) → Arena k a p rs → 0 < p.free → p.head < length a
-first_inside k a p rs arena some = let f = first k a p rs arena some in some_in a p.head f.cell f.at
+pub first_inside : {E A S : Type 0} {k : Meaning E A S} {a : List (Cell E S)} {p : Pool} {rs : List ℕ} → Arena k a p rs → 0 < p.free → p.head < length a
+first_inside {k} {a} {p} {rs} arena some = let f = first k a p rs arena some in some_in a p.head f.cell f.at
 
 -- the links of the new cell were roots
 counted_made : {E S : Type 0} (a : List (Cell E S)) (i : ℕ) (f d : Cell E S) (rs : List ℕ) → slice_get a i ≡ Some f → f.refs ≡ 0 → d.refs ≡ 1
@@ -54,8 +54,8 @@ counted_made a i f d rs at free one counts j within =
     (λ ne. let h = hit_other i j ne in let same = ap referred (nth_set_other a i j d ne) in omega arith)
     (cases_eq j i)
 
-module _ {E A S : Type 0} (k : Meaning E A S) (laws : Laws k) (a : List (Cell E S)) (p : Pool) (left right : ℕ) (item : Item E S)
-    (rs : List ℕ) (arena : Arena k a p (left ∷ right ∷ rs)) (fits : Fits k (tree a left) item (tree a right)) where
+module _ {E A S : Type 0} {k : Meaning E A S} (laws : Laws k) {a : List (Cell E S)} {p : Pool} {left right : ℕ} {item : Item E S}
+    {rs : List ℕ} (arena : Arena k a p (left ∷ right ∷ rs)) (fits : Fits k (tree a left) item (tree a right)) where
   abbrev e : E
   e = item.element
 
@@ -180,15 +180,15 @@ module _ {E A S : Type 0} (k : Meaning E A S) (laws : Laws k) (a : List (Cell E 
         }
 
   -- the same of what the code computes
-  pub made_by : (some : 0 < p.free) (cl cr : ℕ) (sr s sl t : S) (f : Cell E S) (b : List (Cell E S)) → cl ≡ cell_count a left → cr ≡ cell_count a right
+  pub made_by : (some : 0 < p.free) {cl cr : ℕ} {sr s sl t : S} {f : Cell E S} {b : List (Cell E S)} → cl ≡ cell_count a left → cr ≡ cell_count a right
       → sr ≡ sum_at k a right → (Joinable k own sr → s ≡ k.plus own sr) → sl ≡ sum_at k a left → (Joinable k sl s → t ≡ k.plus sl s) → slice_get a p.head ≡ Some f
       → b ≡ set a p.head (record { element = e; own = own; left = left; right = right; count = cl + 1 + cr; summary = t; refs = 1 })
       → Yields k false a p rs b (record { head = f.left; free = p.free - 1 }) p.head (node l e r) 1
-  made_by some cl cr sr s sl t f b cl_is cr_is sr_is s_is sl_is t_is at b_is =
+  made_by some {cl} {cr} {sr} {s} {sl} {t} {f} cl_is cr_is sr_is s_is sl_is t_is at b_is =
       let s1 = s_is (joins_right sr sr_is) in
       let t1 = t_is (joins_left sl sr s sr_is s1 sl_is) in
       subst (λ x. Yields k false a p rs x (record { head = f.left; free = p.free - 1 }) p.head (node l e r) 1) (sym b_is)
       (made some (cl + 1 + cr) t (omega arith) (summary_is sl sr s t sr_is s1 sl_is t1) f at)
 
-  pub counts_fit : (cl cr : ℕ) → cl ≡ cell_count a left → cr ≡ cell_count a right → cl + 1 + cr < 2 ^ 32
-  counts_fit cl cr el er = omega (arith, fits.few, left_known.counts, right_known.counts)
+  pub counts_fit : {cl cr : ℕ} → cl ≡ cell_count a left → cr ≡ cell_count a right → cl + 1 + cr < 2 ^ 32
+  counts_fit el er = omega (arith, fits.few, left_known.counts, right_known.counts)

@@ -6,6 +6,7 @@ use Rattle.kinds.specs.Kinds.{Meaning, Lawful, IsAtom, total}
 use Rattle.balance.specs.Trees.{Tree, leaf, node, elements, mirror, Δ}
 use Rattle.balance.specs.Lists.{Shape}
 use Rattle.cells.specs.declared.cell.Cell.{Cell}
+use Rattle.cells.specs.declared.item.Item.{Item}
 
 -- what trees see of a kind: extents and parts
 abbrev pub shape : {E A S : Type 0} → Meaning E A S → Shape E
@@ -68,6 +69,11 @@ module _ {E A S : Type 0} (k : Meaning E A S) where
   -- the atoms of a tree's elements, in order
   abbrev pub meant : Tree E → List A
   meant t = flat_map k.atoms (elements t)
+
+  -- an element of the kind, with its own summary
+  pub record Whole (item : Item E S) : Type 0 where
+    pub lawful : Lawful k item.element
+    pub owns : item.own ≡ total k (k.atoms item.element)
 
   -- the summary that a link tells
   abbrev pub summed : Option (Cell E S) → S

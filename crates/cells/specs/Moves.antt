@@ -1,11 +1,10 @@
 -- What the functions do with cells: the owned roots before and after, the trees, and what stays.
-use Rattle.std.specs.Prelude.{◌≡◌, ℕ, ◌+◌, ◌*◌, ◌^◌, ◌<◌, ◌≤◌, Bool, cond, List, [], ◌∷◌, ◌++◌, length, take, Some, None, Option, slice_index, slice_set}
+use Rattle.std.specs.Prelude.{◌≡◌, ℕ, ◌+◌, ◌*◌, ◌^◌, ◌<◌, ◌≤◌, Bool, List, [], ◌∷◌, ◌++◌, Some, None, Option, IfSome, slice_set}
 use Rattle.std.specs.List.{slice_get}
 use Rattle.faults.specs.Limits.{limit}
 use Rattle.kinds.specs.Kinds.{Meaning, Lawful, total}
 use Rattle.balance.specs.Trees.{Tree, node, count, weight, Δ}
 use Rattle.balance.specs.Ways.{span}
-use Rattle.balance.specs.Levels.{Levels, most, deepest}
 use Rattle.cells.specs.declared.cell.Cell.{Cell}
 use Rattle.cells.specs.declared.item.Item.{Item}
 use Rattle.cells.specs.declared.pool.Pool.{Pool}
@@ -58,37 +57,28 @@ module _ {E A S : Type 0} (k : Meaning E A S) where
     pub moved : Moved a p rs b q (r ∷ []) n
     pub tree_is : seen flip b r ≡ t
 
-  -- the roots that are owned once a reference to the cell c is given up: where it was the last, the cell's children
-  abbrev pub owing : Bool → Cell E S → List ℕ → List ℕ
-  owing freed c rs = cond freed (c.left ∷ c.right ∷ rs) rs
+  -- so from the roots xs, whatever else is owned
+  abbrev pub Makes : Bool → List (Cell E S) → Pool → List ℕ → List (Cell E S) → Pool → ℕ → Tree E → ℕ → Type 0
+  Makes flip a p xs b q r t n = (rs : List ℕ) → Arena k a p (xs ++ rs) → Yields flip a p rs b q r t n
 
-  pub record GivesUp (a : List (Cell E S)) (p : Pool) (i : ℕ) (b : List (Cell E S)) (q : Pool) (freed : Bool) : Type 0 where
-    pub each : (c : Cell E S) (rs : List ℕ) → slice_get a i ≡ Some c → Arena k a p (i ∷ rs) → Arena k b q (owing freed c rs)
+  -- the roots that are owned once a reference is given up: where it was the last to a cell, the cell's children
+  abbrev pub owing : Option (Cell E S) → List ℕ → List ℕ
+  owing None rs = rs
+  owing (Some c) rs = c.left ∷ c.right ∷ rs
+
+  -- how many cells that frees
+  abbrev pub freed : Option (Cell E S) → ℕ
+  freed None = 0
+  freed (Some c) = 1
+
+  -- A reference to what i names was given up. The cell that it freed, if any, is handed out as it was.
+  pub record GivesUp (a : List (Cell E S)) (p : Pool) (i : ℕ) (b : List (Cell E S)) (q : Pool) (last : Option (Cell E S)) : Type 0 where
+    pub was : IfSome last (λ c. slice_get a i ≡ Some c)
+    pub each : (rs : List ℕ) → Arena k a p (i ∷ rs) → Arena k b q (owing last rs)
     pub takes : Takes a b 0
     pub same_counts : (j : ℕ) → cell_count b j ≡ cell_count a j
-    pub uses : used b + cond freed 1 0 ≡ used a
-    pub frees : q.free ≡ p.free + cond freed 1 0
-
-  -- A table of links to be given up. They get lighter from its foot up, so that it stays short.
-  abbrev pub Tapers : List (Cell E S) → List ℕ → ℕ → Type 0
-  Tapers a table top = (j : ℕ) → j < top → Levels j (cell_count a (slice_index table j) + 1) (most + 1)
-
-  pub record Owes (a : List (Cell E S)) (p : Pool) (table : List ℕ) (top : ℕ) : Type 0 where
-    pub rest : List ℕ
-    pub arena : Arena k a p (take top table ++ rest)
-    pub size : length table ≡ 64
-    pub low : top ≤ deepest + 1
-    pub tapers : Tapers a table top
-
-  -- one of them was given up
-  pub record Pays (a : List (Cell E S)) (p : Pool) (table : List ℕ) (top : ℕ) (b : List (Cell E S)) (q : Pool) (after : List ℕ) (left : ℕ) : Type 0 where
-    pub each : (rs : List ℕ) → Arena k a p (take top table ++ rs) → Arena k b q (take left after ++ rs)
-    pub takes : Takes a b 0
-    pub size : length after ≡ 64
-    pub low : left ≤ deepest + 1
-    pub tapers : Tapers b after left
-    pub falls : 2 * used b + left < 2 * used a + top
-    pub more : p.free ≤ q.free
+    pub uses : used b + freed last ≡ used a
+    pub frees : q.free ≡ p.free + freed last
 
   -- A root is no longer owned. What only it reached is free: what the others reach, and no more, is in use.
   pub record Releases (a : List (Cell E S)) (p : Pool) (rs : List ℕ) (b : List (Cell E S)) (q : Pool) : Type 0 where

@@ -39,6 +39,10 @@ pub record Arena {E A S : Type 0} (k : Meaning E A S) (cells : List (Cell E S)) 
   pub all : pool.free + used cells ≡ length cells
   pub long : length cells ≤ 65535
 
+-- the roots xs are owned, and some others
+abbrev pub Owned : {E A S : Type 0} → Meaning E A S → List (Cell E S) → Pool → List ℕ → Type 0
+Owned k cells pool xs = (rs : List ℕ) × Arena k cells pool (xs ++ rs)
+
 -- an arena whose owned roots are xs and some others, at most n
 pub record Holds {E A S : Type 0} (k : Meaning E A S) (cells : List (Cell E S)) (pool : Pool) (xs : List ℕ) (n : ℕ) : Type 0 where
   pub rest : List ℕ

@@ -13,3 +13,6 @@ pub struct Cell<E, S> {
     // How many links name the cell; 0 exactly for a free one.
     pub refs: u32,
 }
+
+// The link that names no cell: the root of an empty tree. No session has so many cells.
+pub const NONE: u32 = u32::MAX;

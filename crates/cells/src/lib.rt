@@ -6,15 +6,17 @@ mod cell;
 mod item;
 mod making;
 mod owning;
+mod path;
 mod pool;
 mod read;
 mod releasing;
 mod starting;
 
-pub use cell::Cell;
+pub use cell::{Cell, NONE};
 pub use item::Item;
 pub use making::make;
 pub use owning::retain;
+pub use path::Path;
 pub use pool::Pool;
 pub use read::{cell_at, count_at, summary_at};
 pub use releasing::{free, release};

@@ -1,13 +1,12 @@
 // A new cell over two trees.
-ghost use Rattle.std.specs.Prelude.{◌≡◌, ℕ, ◌+◌, ◌<◌, false, List, ◌∷◌};
+ghost use Rattle.std.specs.Prelude.{◌≡◌, ◌+◌, ◌<◌, false, [], ◌∷◌};
 ghost use Rattle.balance.specs.Trees.{node};
 ghost use Rattle.cells.specs.Cells.{tree};
-ghost use Rattle.cells.specs.References.{Arena};
-ghost use Rattle.cells.specs.Moves.{Fits, Yields};
+ghost use Rattle.cells.specs.References.{Owned};
+ghost use Rattle.cells.specs.Moves.{Fits, Makes};
 
 use crate::cell::Cell;
 use crate::item::Item;
-use crate::owning::put;
 use crate::pool::Pool;
 use crate::read::{cell_at, count_at, summary_at};
 use kinds::Kind;
@@ -22,11 +21,10 @@ pub fn make<K: Kind>(
     item: Item<K::Element, K::Summary>,
     right: u32,
 ) -> u32
-    requires owned { (rs : List ℕ) × Arena (K.meaning kind.now) cells.old pool.old (left ∷ right ∷ rs) }
+    requires owned { Owned (K.meaning kind.now) cells.old pool.old (left ∷ right ∷ []) }
     requires fits { Fits (K.meaning kind.now) (tree cells.old left) item (tree cells.old right) }
     requires some { 0 < pool.old.free }
-    ensures yields { (rs : List ℕ) → Arena (K.meaning kind.now) cells.old pool.old (left ∷ right ∷ rs)
-        → Yields (K.meaning kind.now) false cells.old pool.old rs cells.new pool.new result
+    ensures yields { Makes (K.meaning kind.now) false cells.old pool.old (left ∷ right ∷ []) cells.new pool.new result
         (node (tree cells.old left) item.element (tree cells.old right)) 1 }
     ensures taken { pool.new.free + 1 ≡ pool.old.free }
 {
@@ -34,21 +32,16 @@ pub fn make<K: Kind>(
     let count = count_at(cells, left) + 1 + count_at(cells, right);
     let behind = kind.join(item.own, summary_at(kind, cells, right));
     let summary = kind.join(summary_at(kind, cells, left), behind);
-    let taken = cell_at(cells, i);
-    put(
-        cells,
-        i,
-        Cell {
-            element: item.element,
-            own: item.own,
-            left,
-            right,
-            count,
-            summary,
-            refs: 1,
-        },
-    );
-    pool.head = taken.left;
+    pool.head = cell_at(cells, i).left;
+    cells[i as usize] = Cell {
+        element: item.element,
+        own: item.own,
+        left,
+        right,
+        count,
+        summary,
+        refs: 1,
+    };
     pool.free -= 1;
     i
 }

@@ -1,8 +1,8 @@
 // Writing a cell: one reference more, or one fewer.
-ghost use Rattle.std.specs.Prelude.{◌≡◌, ℕ, ◌^◌, ◌<◌, List, [], ◌∷◌, length, slice_set};
+ghost use Rattle.std.specs.Prelude.{◌≡◌, ◌^◌, ◌<◌, [], ◌∷◌};
 ghost use Rattle.cells.specs.declared.pool.Pool.{Pool};
 ghost use Rattle.cells.specs.Cells.{Live};
-ghost use Rattle.cells.specs.References.{Arena, Holds};
+ghost use Rattle.cells.specs.References.{Holds, Owned};
 ghost use Rattle.cells.specs.Moves.{retained, Retains, GivesUp};
 
 use crate::cell::Cell;
@@ -10,14 +10,8 @@ use crate::pool::Pool;
 use crate::read::cell_at;
 use kinds::Kind;
 
-pub fn put<E: Copy, S: Copy>(cells: &mut [Cell<E, S>], i: u32, cell: Cell<E, S>)
-    requires { i < length cells.old }
-    ensures { cells.new ≡ slice_set cells.old i cell }
-{
-    cells[i as usize] = cell;
-}
-
-// Owns what `i` names once more. The pool is not touched, whichever it is.
+// Owns what `i` names once more. The pool is not touched, whichever it is. The cell is written by index: of what is written
+// through `get_mut` no contract tells.
 pub fn retain<K: Kind>(kind: &K, cells: &mut [Cell<K::Element, K::Summary>], i: u32)
     requires holds { (p : Pool) × Holds (K.meaning kind.now) cells.old p [] (2 ^ 30) }
     requires live { Live cells.old i }
@@ -25,52 +19,32 @@ pub fn retain<K: Kind>(kind: &K, cells: &mut [Cell<K::Element, K::Summary>], i: 
     ensures retains { Retains (K.meaning kind.now) cells.old i cells.new }
 {
     if (i as usize) < cells.len() {
-        let c = cell_at(cells, i);
-        put(
-            cells,
-            i,
-            Cell {
-                refs: c.refs + 1,
-                ..c
-            },
-        );
+        cells[i as usize].refs += 1;
     }
 }
 
-// Gives up one reference to the cell `i`, and says whether it was the last: then the cell is free, and its children are
-// owed in its place.
+// Gives up one reference to what `i` names. Where it was the last one to a cell, the cell is free and handed out as it was:
+// its children are owed in its place.
 pub fn give_up<K: Kind>(
     kind: &K,
     cells: &mut [Cell<K::Element, K::Summary>],
     pool: &mut Pool,
     i: u32,
-) -> bool
-    requires inside { i < length cells.old }
-    requires owned { (rs : List ℕ) × Arena (K.meaning kind.now) cells.old pool.old (i ∷ rs) }
+) -> Option<Cell<K::Element, K::Summary>>
+    requires { Owned (K.meaning kind.now) cells.old pool.old (i ∷ []) }
     ensures { GivesUp (K.meaning kind.now) cells.old pool.old i cells.new pool.new result }
 {
-    let c = cell_at(cells, i);
+    let c = *cells.get(i as usize)?;
     if c.refs > 1 {
-        put(
-            cells,
-            i,
-            Cell {
-                refs: c.refs - 1,
-                ..c
-            },
-        );
-        return false;
+        cells[i as usize].refs -= 1;
+        return None;
     }
-    put(
-        cells,
-        i,
-        Cell {
-            refs: 0,
-            left: pool.head,
-            ..c
-        },
-    );
+    cells[i as usize] = Cell {
+        refs: 0,
+        left: pool.head,
+        ..c
+    };
     pool.head = i;
     pool.free += 1;
-    true
+    Some(c)
 }

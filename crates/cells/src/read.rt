@@ -17,20 +17,14 @@ pub fn cell_at<E: Copy, S: Copy>(cells: &[Cell<E, S>], i: u32) -> Cell<E, S>
 pub fn count_at<E: Copy, S: Copy>(cells: &[Cell<E, S>], i: u32) -> u32
     ensures { result ≡ cell_count cells.now i }
 {
-    if (i as usize) < cells.len() {
-        cell_at(cells, i).count
-    } else {
-        0
-    }
+    cells.get(i as usize).map_or(0, |c| c.count)
 }
 
 // Their summary, in order.
 pub fn summary_at<K: Kind>(kind: &K, cells: &[Cell<K::Element, K::Summary>], i: u32) -> K::Summary
     ensures { result ≡ sum_at (K.meaning kind.now) cells.now i }
 {
-    if (i as usize) < cells.len() {
-        cell_at(cells, i).summary
-    } else {
-        kind.empty()
-    }
+    cells
+        .get(i as usize)
+        .map_or_else(|| kind.empty(), |c| c.summary)
 }

@@ -3,9 +3,7 @@ ghost use Rattle.std.specs.Prelude.{◌≡◌, ◌≤◌, [], length};
 ghost use Rattle.cells.specs.References.{Arena};
 
 use crate::cell::Cell;
-use crate::owning::put;
 use crate::pool::Pool;
-use crate::read::cell_at;
 use kinds::Kind;
 
 // Chains the cells in the order of their numbers; the number after the last names none. No root is owned.
@@ -14,18 +12,10 @@ pub fn start<K: Kind>(kind: &K, cells: &mut [Cell<K::Element, K::Summary>]) -> P
     ensures arena { Arena (K.meaning kind.now) cells.new result [] }
     ensures free { result.free ≡ length cells.old }
 {
-    let n = cells.len() as u32;
-    for i in 0..n {
-        let c = cell_at(cells, i);
-        put(
-            cells,
-            i,
-            Cell {
-                left: i + 1,
-                refs: 0,
-                ..c
-            },
-        );
+    let free = cells.len() as u32;
+    for (i, c) in cells.iter_mut().enumerate() {
+        c.left = i as u32 + 1;
+        c.refs = 0;
     }
-    Pool { head: 0, free: n }
+    Pool { head: 0, free }
 }

@@ -12,14 +12,13 @@ use Rattle.balance.proofs.Costs.{link_cost_lem}
 use Rattle.cells.specs.declared.cell.Cell.{Cell}
 use Rattle.cells.specs.declared.item.Item.{Item}
 use Rattle.cells.specs.declared.pool.Pool.{Pool}
-use Rattle.cells.specs.Cells.{cell_count, tree}
+use Rattle.cells.specs.Cells.{cell_count, tree, Whole}
 use Rattle.cells.specs.Reach.{Reached, HowMany, none, one, other}
 use Rattle.cells.specs.References.{Arena, Holds, NoneLost}
-use Rattle.cells.specs.Moves.{Fits, Yields, Releases}
+use Rattle.cells.specs.Moves.{Fits, Makes, Releases}
 use Rattle.cells.proofs.Names.{hit_same, hit_other}
 use Rattle.cells.proofs.Trees.{none_tree, known}
 use Rattle.cells.proofs.Arenas.{rooted, rerooted}
-use Rattle.links.specs.Opened.{Whole}
 use Rattle.links.specs.Sitting.{Linkable}
 
 -- where no root is owned, no cell is reached
@@ -39,62 +38,87 @@ module _ {E A S : Type 0} (k : Meaning E A S) where
   no_tree : (a : List (Cell E S)) (p : Pool) (rs : List ℕ) (i : ℕ) → 65535 ≤ i → Arena k a p rs → tree a i ≡ leaf
   no_tree a p rs i far arena = none_tree a i (slice_get_past a i (omega (arith, arena.long)))
 
-  module _ (item : Item E S) (whole : Whole k item) (short : 2 * length (k.atoms item.element) ≤ limit) (i : ℕ) (far : 65535 ≤ i)
-      (a : List (Cell E S)) (p : Pool) (start : Arena k a p []) (some : 100 ≤ p.free) where
-    abbrev e : E
-    e = item.element
+-- what the first cell asks for, over none
+pub record First {E A S : Type 0} (k : Meaning E A S) (item : Item E S) (a : List (Cell E S)) (p : Pool) (i : ℕ) : Type 0 where
+  pub owned : Arena k a p (i ∷ i ∷ [])
+  pub fits : Fits k (tree a i) item (tree a i)
 
-    pub start_owned : Arena k a p (i ∷ i ∷ [])
-    start_owned = owning_none a p (i ∷ []) i far (owning_none a p [] i far start)
+-- what the link of it with none asks for
+pub record Second {E A S : Type 0} (k : Meaning E A S) (e : E) (a : List (Cell E S)) (p : Pool) (r i : ℕ) : Type 0 where
+  pub holds : Holds k a p (r ∷ i ∷ []) (2 ^ 24)
+  pub linkable : Linkable k (tree a r) e (tree a i)
+  pub some : link_cost (tree a r) (tree a i) ≤ p.free
 
-    empty : tree a i ≡ leaf
-    empty = no_tree a p [] i far start
+-- what giving the two back asks for, and that then all is free
+pub record Last {E A S : Type 0} (k : Meaning E A S) (a : List (Cell E S)) (p : Pool) (r : ℕ) : Type 0 where
+  pub owned : Arena k a p (r ∷ [])
+  pub few : cell_count a r ≤ most
+  pub all : (b : List (Cell E S)) (q : Pool) → ((rs : List ℕ) → Arena k a p (r ∷ rs) → Releases k a p rs b q) → q.free ≡ length b
 
-    pub first_fits : Fits k (tree a i) item (tree a i)
-    first_fits = subst (λ t. Fits k t item t) (sym empty) (record {
-      lawful = whole.lawful;
-      owns = whole.owns;
-      left_light = omega arith;
-      right_light = omega arith;
-      few = omega arith;
-      short = omega (arith, short);
-    })
+module _ {E A S : Type 0} {k : Meaning E A S} {item : Item E S} (whole : Whole k item) {element : E} (same : item.element ≡ element) (room : 2 * length (k.atoms element) ≤ limit)
+    (i : ℕ) (far : 65535 ≤ i) {a : List (Cell E S)} {p : Pool} (start : Arena k a p []) (some : 100 ≤ p.free) where
+  abbrev e : E
+  e = item.element
 
-    module _ (b : List (Cell E S)) (q : Pool) (r : ℕ) (make : (rs : List ℕ) → Arena k a p (i ∷ i ∷ rs) → Yields k false a p rs b q r (node (tree a i) e (tree a i)) 1) where
-      arena_b : Arena k b q (r ∷ [])
-      arena_b = (make [] start_owned).moved.arena
+  short : 2 * length (k.atoms e) ≤ limit
+  short = subst (λ x. 2 * length (k.atoms x) ≤ limit) (sym same) room
 
-      both_b : Arena k b q (r ∷ i ∷ [])
-      both_b = rerooted k b q (i ∷ r ∷ []) (owning_none b q (r ∷ []) i far arena_b) (r ∷ i ∷ []) (λ j h. omega arith)
+  start_owned : Arena k a p (i ∷ i ∷ [])
+  start_owned = owning_none k a p (i ∷ []) i far (owning_none k a p [] i far start)
 
-      pub holds_b : Holds k b q (r ∷ i ∷ []) (2 ^ 24)
-      holds_b = record { rest = []; arena = both_b; few = omega arith }
+  empty : tree a i ≡ leaf
+  empty = no_tree k a p [] i far start
 
-      tree_b : tree b r ≡ node leaf e leaf
-      tree_b = (make [] start_owned).tree_is ∙ ap (λ t. node t e t) empty
+  first_fits : Fits k (tree a i) item (tree a i)
+  first_fits = subst (λ t. Fits k t item t) (sym empty) (record {
+    lawful = whole.lawful;
+    owns = whole.owns;
+    left_light = omega arith;
+    right_light = omega arith;
+    few = omega arith;
+    short = omega (arith, short);
+  })
 
-      none_b : tree b i ≡ leaf
-      none_b = no_tree b q (r ∷ []) i far arena_b
+  pub first : First k item a p i
+  first = record { owned = start_owned; fits = first_fits }
 
-      pub linkable_b : Linkable k (tree b r) e (tree b i)
-      linkable_b = subst (λ t. Linkable k t e (tree b i)) (sym tree_b) (subst (λ t. Linkable k (node leaf e leaf) e t) (sym none_b) (record { few = omega arith; short = omega (arith, short) }))
+  module _ {b : List (Cell E S)} {q : Pool} {r : ℕ} (make : Makes k false a p (i ∷ i ∷ []) b q r (node (tree a i) e (tree a i)) 1) where
+    arena_b : Arena k b q (r ∷ [])
+    arena_b = (make [] start_owned).moved.arena
 
-      pub some_b : link_cost (tree b r) (tree b i) ≤ q.free
-      some_b =
-          let one_balanced : Balanced (node leaf e leaf) = record { left_light = omega arith; right_light = omega arith; left = tt; right = tt } in
-          let c = link_cost_lem (node leaf e leaf) leaf one_balanced tt (omega arith) (omega arith) in
-          let x = ap (λ t. link_cost t (tree b i)) tree_b ∙ ap (link_cost (node leaf e leaf)) none_b in
-          omega (arith, (make [] start_owned).moved.free)
+    both_b : Arena k b q (r ∷ i ∷ [])
+    both_b = rerooted k b q (i ∷ r ∷ []) (owning_none k b q (r ∷ []) i far arena_b) (r ∷ i ∷ []) (λ j h. omega arith)
 
-      module _ (c : List (Cell E S)) (o : Pool) (s : ℕ)
-          (linked : (rs : List ℕ) → Arena k b q (r ∷ i ∷ rs) → Yields k false b q rs c o s (link (tree b r) e (tree b i)) (link_cost (tree b r) (tree b i))) where
-        pub arena_c : Arena k c o (s ∷ [])
-        arena_c = (linked [] both_b).moved.arena
+    holds_b : Holds k b q (r ∷ i ∷ []) (2 ^ 24)
+    holds_b = record { rest = []; arena = both_b; few = omega arith }
 
-        pub few_c : cell_count c s ≤ most
-        few_c =
-            let n = (known k c arena_c.sound s (rooted k c o (s ∷ []) arena_c s (let h = hit_same s in omega arith))).counts in
-            omega (arith, ap count (linked [] both_b).tree_is, link_count (tree b r) e (tree b i), ap count tree_b, ap count none_b)
+    tree_b : tree b r ≡ node leaf e leaf
+    tree_b = (make [] start_owned).tree_is ∙ ap (λ t. node t e t) empty
 
-        pub free_c : (d : List (Cell E S)) (w : Pool) → ((rs : List ℕ) → Arena k c o (s ∷ rs) → Releases k c o rs d w) → w.free ≡ length d
-        free_c d w release = all_free d w (release [] arena_c).none_lost
+    none_b : tree b i ≡ leaf
+    none_b = no_tree k b q (r ∷ []) i far arena_b
+
+    linkable_b : Linkable k (tree b r) e (tree b i)
+    linkable_b = subst (λ t. Linkable k t e (tree b i)) (sym tree_b) (subst (λ t. Linkable k (node leaf e leaf) e t) (sym none_b) (record { few = omega arith; short = omega (arith, short) }))
+
+    some_b : link_cost (tree b r) (tree b i) ≤ q.free
+    some_b =
+        let one_balanced : Balanced (node leaf e leaf) = record { left_light = omega arith; right_light = omega arith; left = tt; right = tt } in
+        let c = link_cost_lem (node leaf e leaf) leaf one_balanced tt (omega arith) (omega arith) in
+        let x = ap (λ t. link_cost t (tree b i)) tree_b ∙ ap (link_cost (node leaf e leaf)) none_b in
+        omega (arith, (make [] start_owned).moved.free)
+
+    pub second : Second k e b q r i
+    second = record { holds = holds_b; linkable = linkable_b; some = some_b }
+
+    module _ {c : List (Cell E S)} {o : Pool} {s : ℕ} (linked : Makes k false b q (r ∷ i ∷ []) c o s (link (tree b r) e (tree b i)) (link_cost (tree b r) (tree b i))) where
+      arena_c : Arena k c o (s ∷ [])
+      arena_c = (linked [] both_b).moved.arena
+
+      few_c : cell_count c s ≤ most
+      few_c =
+          let n = (known k c arena_c.sound s (rooted k c o (s ∷ []) arena_c s (let h = hit_same s in omega arith))).counts in
+          omega (arith, ap count (linked [] both_b).tree_is, link_count (tree b r) e (tree b i), ap count tree_b, ap count none_b)
+
+      pub last : Last k c o s
+      last = record { owned = arena_c; few = few_c; all = λ d w release. all_free k d w (release [] arena_c).none_lost }

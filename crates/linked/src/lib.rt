@@ -6,7 +6,7 @@ ghost use Rattle.std.specs.Prelude.{◌≡◌, ◌*◌, ◌≤◌, length};
 ghost use Rattle.faults.specs.Limits.{limit};
 ghost use Rattle.kinds.specs.Kinds.{Lawful};
 
-use cells::{Cell, Item, free, make, release, start};
+use cells::{Cell, Item, NONE, free, make, release, start};
 use kinds::Kind;
 use links::link;
 
@@ -22,13 +22,9 @@ pub fn come_and_gone<K: Kind>(
     ensures { result ≡ length cells.old }
 {
     let mut pool = start(kind, cells);
-    let none = u32::MAX;
-    let item = Item {
-        element,
-        own: kind.summary(element),
-    };
-    let one = make(kind, cells, &mut pool, none, item, none);
-    let two = link(kind, cells, &mut pool, one, item, none);
+    let item = Item::of(kind, element);
+    let one = make(kind, cells, &mut pool, NONE, item, NONE);
+    let two = link(kind, cells, &mut pool, one, item, NONE);
     release(kind, cells, &mut pool, two);
     free(kind, cells, &pool)
 }

@@ -1,6 +1,8 @@
--- The loop up a table of passed cells.
-use Rattle.std.proofs.Common.{◌≡◌, ℕ, zero, suc, ◌+◌, ◌-◌, ◌*◌, ◌^◌, ◌<◌, ◌≤◌, Bool, List, [], ◌∷◌, ◌++◌, length, get_or, sym, refl, ap, ◌∙◌, subst, arith}
+-- The loop up a path of passed cells.
+use Rattle.std.proofs.Common.{◌≡◌, ℕ, zero, suc, ◌+◌, ◌-◌, ◌*◌, ◌^◌, ◌<◌, ◌≤◌, Bool, List, [], ◌∷◌, ◌++◌, length, get_or, reverse, sym, refl, ap, ◌∙◌, subst, arith}
 use Rattle.std.specs.List.{slice_get}
+use Rattle.std.proofs.lemmas.List.{get_or-reverse, length-reverse}
+use Rattle.std.proofs.lemmas.Grind.{get_or_default_zero}
 use Rattle.kinds.specs.Kinds.{Meaning}
 use Rattle.balance.specs.Trees.{Tree}
 use Rattle.cells.specs.declared.cell.Cell.{Cell}
@@ -8,7 +10,7 @@ use Rattle.cells.specs.declared.pool.Pool.{Pool}
 use Rattle.cells.specs.Cells.{seen}
 use Rattle.cells.specs.Reach.{child, follow, Stays, Reached}
 use Rattle.cells.specs.References.{Arena, Holds}
-use Rattle.cells.specs.Moves.{Moves, Yields}
+use Rattle.cells.specs.Moves.{Moves, Makes}
 use Rattle.cells.proofs.Staying.{stays_refl, stays_trans, follow_same}
 use Rattle.cells.proofs.Names.{hit_same}
 use Rattle.cells.proofs.Moving.{moves_none, moves_then, seen_stays}
@@ -50,89 +52,97 @@ module _ {E S : Type 0} (flip : Bool) (a : List (Cell E S)) (top : ℕ) where
   unfolding climbed
   climbed_none u = refl
 
--- the loop, from a and p on, with n cells of the table to go
-pub record Climbing {E A S : Type 0} (k : Meaning E A S) (flip : Bool) (a : List (Cell E S)) (p : Pool) (low top all : ℕ) (b : List (Cell E S)) (q : Pool) (x n : ℕ) : Type 0 where
-  pub left : n ≤ all
-  pub each : Moves k a p (low ∷ top ∷ []) b q (x ∷ top ∷ []) (3 * (all - n))
+-- the loop, from a and p on: so many cells of the path are passed, and n are left
+pub record Climbing {E A S : Type 0} (k : Meaning E A S) (flip : Bool) (a : List (Cell E S)) (p : Pool) (low top : ℕ) (path : List ℕ) (b : List (Cell E S)) (q : Pool) (x passed : ℕ) : Type 0 where
+  pub n : ℕ
+  pub left : n + passed ≡ length path
+  pub each : Moves k a p (low ∷ top ∷ []) b q (x ∷ top ∷ []) (3 * passed)
   pub stays : Stays a b top
-  pub same : climbed flip a top n (seen flip b x) ≡ climbed flip a top all (seen flip a low)
+  pub same : climbed flip a top n (seen flip b x) ≡ climbed flip a top (length path) (seen flip a low)
   pub sits : Climbs k flip a top n (seen flip b x)
 
-module _ {E A S : Type 0} (k : Meaning E A S) (flip : Bool) (a : List (Cell E S)) (p : Pool) (low top all : ℕ) (holds : Holds k a p (low ∷ top ∷ []) (2 ^ 25)) where
-  pub climbing_start : Climbs k flip a top all (seen flip a low) → Climbing k flip a p low top all a p low all
-  climbing_start sits = record {
-    left = omega arith;
-    each = let e : 0 ≡ 3 * (all - all) = omega arith in subst (λ n. Moves k a p (low ∷ top ∷ []) a p (low ∷ top ∷ []) n) e (moves_none k a p (low ∷ top ∷ []));
-    stays = stays_refl a top;
-    same = refl;
-    sits = sits;
-  }
+pub climbing_start : {E A S : Type 0} (k : Meaning E A S) (flip : Bool) (a : List (Cell E S)) (p : Pool) (low top : ℕ) (path : List ℕ)
+    → Climbs k flip a top (length path) (seen flip a low) → Climbing k flip a p low top path a p low 0
+climbing_start k flip a p low top path sits =
+    record { n = length path; left = omega arith; each = moves_none k a p (low ∷ top ∷ []); stays = stays_refl a top; same = refl; sits = sits }
 
-  module _ (table : List ℕ) (tabled : Tabled flip a top table all) (b : List (Cell E S)) (q : Pool) (x n m : ℕ) (e : n ≡ suc m) (climbing : Climbing k flip a p low top all b q x n) where
-    abbrev i : ℕ
-    i = get_or table m 0
+-- the turn of the loop at the cell i
+pub record Turn {E A S : Type 0} (k : Meaning E A S) (flip : Bool) (a : List (Cell E S)) (p : Pool) (low top : ℕ) (path : List ℕ) (b : List (Cell E S)) (q : Pool) (x passed i : ℕ) : Type 0 where
+  pub above : Above k b q x i (2 ^ 26)
+  pub inside : length b ≡ length a → i < length b
+  pub sits : Sits k (raised (seen flip b x) (seen flip b i))
+  pub some : 3 * length path ≤ p.free → 3 ≤ q.free
+  pub next : (c : List (Cell E S)) (o : Pool) (r : ℕ) → (Makes k flip b q (x ∷ []) c o r (raised (seen flip b x) (seen flip b i)) 3)
+      → Climbing k flip a p low top path c o r (passed + 1)
 
+module _ {E A S : Type 0} {k : Meaning E A S} {flip : Bool} {a : List (Cell E S)} {p : Pool} {low top : ℕ} {path : List ℕ} (holds : Holds k a p (low ∷ top ∷ []) (2 ^ 25)) (tabled : Tabled flip a top path)
+    {b : List (Cell E S)} {q : Pool} {x passed : ℕ} (climbing : Climbing k flip a p low top path b q x passed) where
+  held : Arena k b q (x ∷ top ∷ holds.rest)
+  held = (climbing.each holds.rest holds.arena).arena
+
+  -- m cells lie beyond i
+  module _ (i m : ℕ) (n_is : climbing.n ≡ suc m) (i_at : i ≡ get_or path m 0) where
     abbrev d : ℕ
     d = descent flip a top m
 
-    now : Climbing k flip a p low top all b q x (suc m)
-    now = subst (Climbing k flip a p low top all b q x) e climbing
+    within : m < length path
+    within = omega (arith, climbing.left)
 
     i_is : i ≡ d
-    i_is = tabled.are m (omega (arith, climbing.left))
-
-    pub row : m < 64
-    row = omega (arith, climbing.left, tabled.low)
-
-    pub is_inside : length b ≡ length a → i < length b
-    is_inside same = omega (arith, tabled.inside m (omega (arith, climbing.left)))
-
-    held : Arena k b q (x ∷ top ∷ holds.rest)
-    held = (climbing.each holds.rest holds.arena).arena
-
-    pub above : Above k b q x i (2 ^ 26)
-    above = record {
-      rest = top ∷ holds.rest;
-      arena = held;
-      reached = subst (Reached b (top ∷ holds.rest)) (sym i_is) (descent_reached flip a top b climbing.stays holds.rest m);
-      few = omega (arith, holds.few);
-    }
+    i_is = i_at ∙ tabled.are m within
 
     i_tree : seen flip b i ≡ seen flip a d
     i_tree = ap (seen flip b) i_is ∙ seen_stays flip a b d (descent_stays flip a top b climbing.stays m)
 
     sits_now : Sits k (raised (seen flip b x) (seen flip a d)) × Climbs k flip a top m (raised (seen flip b x) (seen flip a d))
     unfolding Climbs
-    sits_now = now.sits
+    sits_now = subst (λ n. Climbs k flip a top n (seen flip b x)) n_is climbing.sits
 
-    pub raised_sits : Sits k (raised (seen flip b x) (seen flip b i))
-    raised_sits = subst (λ t. Sits k (raised (seen flip b x) t)) (sym i_tree) sits_now.0
+    same_now : climbed flip a top m (raised (seen flip b x) (seen flip a d)) ≡ climbed flip a top (length path) (seen flip a low)
+    same_now = sym (climbed_more flip a top m (seen flip b x)) ∙ ap (λ n. climbed flip a top n (seen flip b x)) (sym n_is) ∙ climbing.same
 
-    pub free_left : 3 * all ≤ p.free → 3 ≤ q.free
-    free_left some = omega (arith, (climbing.each holds.rest holds.arena).free, climbing.left)
+    turn_at : Turn k flip a p low top path b q x passed i
+    turn_at = record {
+      above = record {
+        rest = top ∷ holds.rest;
+        arena = held;
+        reached = subst (Reached b (top ∷ holds.rest)) (sym i_is) (descent_reached flip a top b climbing.stays holds.rest m);
+        few = omega (arith, holds.few);
+      };
+      inside = λ same. let h = tabled.inside m within in omega arith;
+      sits = subst (λ t. Sits k (raised (seen flip b x) t)) (sym i_tree) sits_now.0;
+      some = λ some. omega (arith, (climbing.each holds.rest holds.arena).free, climbing.left);
+      next = λ c o r raise.
+          let tree : seen flip c r ≡ raised (seen flip b x) (seen flip a d) = (raise (top ∷ holds.rest) held).tree_is ∙ ap (raised (seen flip b x)) i_tree in
+          let cost : 3 * passed + 3 ≡ 3 * (passed + 1) = omega arith in
+          record {
+            n = m;
+            left = omega (arith, climbing.left);
+            each = subst (λ n. Moves k a p (low ∷ top ∷ []) c o (r ∷ top ∷ []) n) cost
+                (moves_then k a p (low ∷ top ∷ []) b q (x ∷ top ∷ []) (3 * passed) climbing.each (x ∷ []) (top ∷ []) (λ j. omega arith) c o (r ∷ []) 3 (λ rs ar. (raise rs ar).moved) (r ∷ top ∷ []) (λ j. omega arith));
+            stays = stays_trans a b c top climbing.stays ((raise (top ∷ holds.rest) held).moved.stay top (let h = hit_same top in omega arith));
+            same = ap (climbed flip a top m) tree ∙ same_now;
+            sits = subst (Climbs k flip a top m) (sym tree) sits_now.1;
+          };
+    }
 
-    pub climbing_more : (c : List (Cell E S)) (o : Pool) (r : ℕ) → ((rs : List ℕ) → Arena k b q (x ∷ rs) → Yields k flip b q rs c o r (raised (seen flip b x) (seen flip b i)) 3)
-        → Climbing k flip a p low top all c o r m
-    climbing_more c o r raise =
-        let tree : seen flip c r ≡ raised (seen flip b x) (seen flip a d) = (raise (top ∷ holds.rest) held).tree_is ∙ ap (raised (seen flip b x)) i_tree in
-        let cost : 3 * (all - suc m) + 3 ≡ 3 * (all - m) = omega (arith, climbing.left) in
-        record {
-          left = omega (arith, climbing.left);
-          each = subst (λ n. Moves k a p (low ∷ top ∷ []) c o (r ∷ top ∷ []) n) cost
-              (moves_then k a p (low ∷ top ∷ []) b q (x ∷ top ∷ []) (3 * (all - suc m)) now.each (x ∷ []) (top ∷ []) (λ j. omega arith) c o (r ∷ []) 3 (λ rs ar. (raise rs ar).moved) (r ∷ top ∷ []) (λ j. omega arith));
-          stays = stays_trans a b c top climbing.stays ((raise (top ∷ holds.rest) held).moved.stay top (let h = hit_same top in omega arith));
-          same = ap (climbed flip a top m) tree ∙ sym (climbed_more flip a top m (seen flip b x)) ∙ now.same;
-          sits = subst (Climbs k flip a top m) (sym tree) sits_now.1;
-        }
+  -- the path is gone through from its end
+  pub turn : (i : ℕ) → (passed < length (reverse path)) × (i ≡ get_or (reverse path) passed i) → Turn k flip a p low top path b q x passed i
+  turn i at =
+      let m : ℕ = climbing.n - 1 in
+      let l = length-reverse path in
+      let h : passed < length path = omega (arith, at.0) in
+      let e : length path - 1 - passed ≡ m = omega (arith, climbing.left) in
+      let z : get_or path m i ≡ get_or path m 0 = get_or_default_zero path m i (omega (arith, climbing.left)) in
+      turn_at i m (omega (arith, climbing.left)) (at.1 ∙ get_or-reverse path passed i h ∙ ap (λ j. get_or path j i) e ∙ z)
 
-  pub climbing_end : (b : List (Cell E S)) (q : Pool) (x n : ℕ) → n ≤ 0 → Climbing k flip a p low top all b q x n
-      → Raises k flip a p low top b q x (climbed flip a top all (seen flip a low)) (3 * all)
-  climbing_end b q x n none climbing =
-      let z : n ≡ 0 = omega arith in
-      let end = subst (Climbing k flip a p low top all b q x) z climbing in
-      let cost : 3 * (all - 0) ≡ 3 * all = omega arith in
+  pub climbing_end : passed ≡ length (reverse path) → Raises k flip a p low top b q x (climbed flip a top (length path) (seen flip a low)) (3 * length path)
+  climbing_end all =
+      let l = length-reverse path in
+      let z : climbing.n ≡ 0 = omega (arith, climbing.left) in
+      let cost : 3 * passed ≡ 3 * length path = omega arith in
       record {
-        each = subst (λ n. Moves k a p (low ∷ top ∷ []) b q (x ∷ top ∷ []) n) cost end.each;
-        stays = end.stays;
-        tree_is = sym (climbed_none flip a top (seen flip b x)) ∙ end.same;
+        each = subst (λ n. Moves k a p (low ∷ top ∷ []) b q (x ∷ top ∷ []) n) cost climbing.each;
+        stays = climbing.stays;
+        tree_is = sym (climbed_none flip a top (seen flip b x)) ∙ ap (λ n. climbed flip a top n (seen flip b x)) (sym z) ∙ climbing.same;
       }

@@ -13,12 +13,11 @@ use Rattle.cells.specs.declared.pool.Pool.{Pool}
 use Rattle.cells.specs.Cells.{cell_count, seen, Live}
 use Rattle.cells.specs.Reach.{Among, Stays}
 use Rattle.cells.specs.References.{Arena, Holds}
-use Rattle.cells.specs.Moves.{Moved, Moves, Retains, Fits, Yields, Releases}
+use Rattle.cells.specs.Moves.{Moved, Moves, Retains, Fits, Makes, Releases}
 use Rattle.cells.proofs.Staying.{stays_trans}
 use Rattle.cells.proofs.Names.{hit_same}
 use Rattle.cells.proofs.Arenas.{rooted, rerooted}
 use Rattle.cells.proofs.Moving.{moves_none, moves_then, seen_stays}
-use Rattle.links.specs.declared.foot.Foot.{Foot}
 use Rattle.links.specs.Opened.{Whole}
 use Rattle.links.specs.Sitting.{Sits, Linkable}
 use Rattle.links.specs.Climbing.{descent, climbed, Tabled, Climbs, Sunk, Raises}
@@ -32,7 +31,7 @@ pub right_cost : {E : Type 0} (l r : Tree E) → Δ * weight l < weight r → li
 unfolding link_cost passes
 right_cost l r heavy = ap (λ n. 3 * n + 1) (weighed_right (weight l) (weight r) _ _ _ heavy)
 
-module _ {E A S : Type 0} (k : Meaning E A S) (flip : Bool) (a : List (Cell E S)) (p : Pool) (x y : ℕ) (item : Item E S) (holds : Holds k a p (x ∷ y ∷ []) (2 ^ 24))
+module _ {E A S : Type 0} {k : Meaning E A S} (flip : Bool) {a : List (Cell E S)} {p : Pool} {x y : ℕ} (item : Item E S) (holds : Holds k a p (x ∷ y ∷ []) (2 ^ 24))
     (linkable : Linkable k (seen flip a x) item.element (seen flip a y)) (heavy : Δ * weight (seen flip a x) < weight (seen flip a y)) where
   abbrev L : Tree E
   L = seen flip a x
@@ -73,24 +72,21 @@ module _ {E A S : Type 0} (k : Meaning E A S) (flip : Bool) (a : List (Cell E S)
   pub room : Holds k a p [] (2 ^ 30)
   room = record { rest = x ∷ y ∷ holds.rest; arena = holds.arena; few = omega (arith, holds.few) }
 
-  module _ (table : List ℕ) (foot : Foot) (sunk : Sunk k flip a L y table foot) where
-    abbrev f : ℕ
-    f = foot.cell
-
+  module _ {path : List ℕ} {f : ℕ} (sunk : Sunk k flip a L y path f) where
     abbrev n : ℕ
-    n = foot.top
+    n = length path
 
     light : weight L ≤ Δ * weight R
     light = omega (arith, heavy)
 
     pub foot_live : Live a f
-    foot_live = subst (Live a) (sym sunk.foot_is) (descent_live k flip a holds.arena.sound y y_live L e x_balanced linkable light table foot sunk n)
+    foot_live = subst (Live a) (sym sunk.foot_is) (descent_live k flip a holds.arena.sound y y_live L e x_balanced linkable light path f sunk n)
 
     sits_a : Sits k (node L e (seen flip a f))
-    sits_a = subst (λ t. Sits k (node L e t)) (sym (foot_tree k flip a holds.arena.sound y y_live L e x_balanced linkable light table foot sunk))
-        (foot_sits k flip a holds.arena.sound y y_live L e x_balanced linkable light table foot sunk)
+    sits_a = subst (λ t. Sits k (node L e t)) (sym (foot_tree k flip a holds.arena.sound y y_live L e x_balanced linkable light path f sunk))
+        (foot_sits k flip a holds.arena.sound y y_live L e x_balanced linkable light path f sunk)
 
-    module _ (b : List (Cell E S)) (one : Retains k a f b) where
+    module _ {b : List (Cell E S)} (one : Retains k a f b) where
       move_b : Moves k a p (x ∷ y ∷ []) b p (x ∷ y ∷ f ∷ []) (0 + 0)
       move_b = moves_then k a p (x ∷ y ∷ []) a p (x ∷ y ∷ []) 0 (moves_none k a p (x ∷ y ∷ [])) [] (x ∷ y ∷ []) (λ i. omega arith) b p (f ∷ []) 0 (one.each p) (x ∷ y ∷ f ∷ []) (λ i. omega arith)
 
@@ -109,8 +105,8 @@ module _ {E A S : Type 0} (k : Meaning E A S) (flip : Bool) (a : List (Cell E S)
       pub fits_b : Whole k item → Fits k (seen flip b x) item (seen flip b f)
       fits_b whole = subst (λ t. Fits k t item (seen flip b f)) (sym x_b) (subst (λ t. Fits k L item t) (sym f_b) (sits_fits k L item (seen flip a f) sits_a whole))
 
-      module _ (c : List (Cell E S)) (q : Pool) (low : ℕ)
-          (two : (rs : List ℕ) → Arena k b p (x ∷ f ∷ rs) → Yields k flip b p rs c q low (node (seen flip b x) e (seen flip b f)) 1) where
+      module _ {c : List (Cell E S)} {q : Pool} {low : ℕ}
+          (two : Makes k flip b p (x ∷ f ∷ []) c q low (node (seen flip b x) e (seen flip b f)) 1) where
         move_c : Moves k a p (x ∷ y ∷ []) c q (low ∷ y ∷ []) (0 + 1)
         move_c = moves_then k a p (x ∷ y ∷ []) b p (x ∷ y ∷ f ∷ []) 0 move_b (x ∷ f ∷ []) (y ∷ []) (λ i. omega arith) c q (low ∷ []) 1 (λ rs ar. (two rs ar).moved) (low ∷ y ∷ []) (λ i. omega arith)
 
@@ -123,10 +119,10 @@ module _ {E A S : Type 0} (k : Meaning E A S) (flip : Bool) (a : List (Cell E S)
         y_stays : Stays a c y
         y_stays = stays_trans a b c y (stay_b y (let h = hit_same y in omega arith)) ((two (y ∷ holds.rest) arena_b).moved.stay y (let h = hit_same y in omega arith))
 
-        sunk_c : Sunk k flip c L y table foot
-        sunk_c = sunk_stays k flip a c y y_stays L table foot sunk
+        sunk_c : Sunk k flip c L y path f
+        sunk_c = sunk_stays k flip a c y y_stays L path f sunk
 
-        pub tabled_c : Tabled flip c y table n
+        pub tabled_c : Tabled flip c y path
         tabled_c = sunk_c.tabled
 
         y_c : seen flip c y ≡ R
@@ -147,15 +143,15 @@ module _ {E A S : Type 0} (k : Meaning E A S) (flip : Bool) (a : List (Cell E S)
             ∙ ap (λ i. node L e (seen flip a i)) sunk.foot_is ∙ ap (node L e) (sym (level_same k flip a c y y_stays n))
 
         pub climbs_c : Climbs k flip c y n (seen flip c low)
-        climbs_c = subst (Climbs k flip c y n) (sym low_c) (foot_climbs k flip c arena_c.sound y y_live_c L e x_balanced linkable_c light_c table foot sunk_c)
+        climbs_c = subst (Climbs k flip c y n) (sym low_c) (foot_climbs k flip c arena_c.sound y y_live_c L e x_balanced linkable_c light_c path f sunk_c)
 
         climbed_c : climbed flip c y n (seen flip c low) ≡ hung L e R
-        climbed_c = ap (climbed flip c y n) low_c ∙ foot_climbed k flip c arena_c.sound y y_live_c L e x_balanced linkable_c light_c table foot sunk_c ∙ ap (hung L e) y_c
+        climbed_c = ap (climbed flip c y n) low_c ∙ foot_climbed k flip c arena_c.sound y y_live_c L e x_balanced linkable_c light_c path f sunk_c ∙ ap (hung L e) y_c
 
         pub some_c : 3 * length (spine L R) + 1 ≤ p.free → 3 * n ≤ q.free
         some_c some = omega (arith, sunk.spine_is, (move_c holds.rest holds.arena).free)
 
-        module _ (d : List (Cell E S)) (o : Pool) (r : ℕ) (three : Raises k flip c q low y d o r (climbed flip c y n (seen flip c low)) (3 * n)) where
+        module _ {d : List (Cell E S)} {o : Pool} {r : ℕ} (three : Raises k flip c q low y d o r (climbed flip c y n (seen flip c low)) (3 * n)) where
           move_d : Moves k a p (x ∷ y ∷ []) d o (r ∷ y ∷ []) (1 + 3 * n)
           move_d = moves_then k a p (x ∷ y ∷ []) c q (low ∷ y ∷ []) 1 move_c (low ∷ y ∷ []) [] (λ i. omega arith) d o (r ∷ y ∷ []) (3 * n) three.each (r ∷ y ∷ []) (λ i. omega arith)
 
@@ -167,8 +163,8 @@ module _ {E A S : Type 0} (k : Meaning E A S) (flip : Bool) (a : List (Cell E S)
               let m = owned_count k flip d o (y ∷ (r ∷ holds.rest)) arena_d y (let h = hit_same y in omega arith) in
               omega (arith, ap count (seen_stays flip c d y three.stays), ap count y_c, linkable.few)
 
-          module _ (z : List (Cell E S)) (w : Pool) (four : (rs : List ℕ) → Arena k d o (y ∷ rs) → Releases k d o rs z w) where
-            pub hangs : (rs : List ℕ) → Arena k a p (x ∷ y ∷ rs) → Yields k flip a p rs z w r (hung L e R) (3 * length (spine L R) + 1)
+          module _ {z : List (Cell E S)} {w : Pool} (four : (rs : List ℕ) → Arena k d o (y ∷ rs) → Releases k d o rs z w) where
+            pub hangs : Makes k flip a p (x ∷ y ∷ []) z w r (hung L e R) (3 * length (spine L R) + 1)
             hangs rs arena =
                 let cost : 1 + 3 * n + 0 ≡ 3 * length (spine L R) + 1 = omega (arith, sunk.spine_is) in
                 record {

@@ -16,7 +16,6 @@ use Rattle.cells.specs.Reach.{child, Alike, Stays}
 use Rattle.cells.proofs.Lists.{some_in, none_past}
 use Rattle.cells.proofs.Staying.{reached_live}
 use Rattle.cells.proofs.Moving.{seen_stays}
-use Rattle.links.specs.declared.foot.Foot.{Foot}
 use Rattle.links.specs.Sitting.{Sits, Linkable}
 use Rattle.links.specs.Climbing.{raised, descent, climbed, Climbs, Sunk}
 use Rattle.links.proofs.Sides.{seen_balanced, seen_opened}
@@ -66,36 +65,35 @@ module _ {E A S : Type 0} (k : Meaning E A S) (flip : Bool) (a b : List (Cell E 
   pub level_same : (n : ℕ) → seen flip b (descent flip b top n) ≡ seen flip a (descent flip a top n)
   level_same n = ap (seen flip b) (descent_same n) ∙ seen_stays flip a b (descent flip a top n) (descent_stays flip a top b stays n)
 
-  pub sunk_stays : (light : Tree E) (table : List ℕ) (foot : Foot) → Sunk k flip a light top table foot → Sunk k flip b light top table foot
-  sunk_stays light table foot sunk = record {
+  pub sunk_stays : (light : Tree E) (path : List ℕ) (foot : ℕ) → Sunk k flip a light top path foot → Sunk k flip b light top path foot
+  sunk_stays light path foot sunk = record {
     tabled = record {
-      size = sunk.tabled.size;
       low = sunk.tabled.low;
       are = λ j h. sunk.tabled.are j h ∙ sym (descent_same j);
       inside = λ j h.
-          let i = get_or table j 0 in
+          let i = get_or path j 0 in
           let alike : Alike (slice_get a i) (slice_get b i) = subst (λ i. Alike (slice_get a i) (slice_get b i)) (sym (sunk.tabled.are j h)) (descent_stays flip a top b stays j []) in
           alike_inside a b i (slice_get a i) (slice_get b i) refl refl alike (sunk.tabled.inside j h);
     };
     passed = λ j h. subst (λ t. Δ * weight light < weight t) (sym (level_same j)) (sunk.passed j h);
-    foot_is = sunk.foot_is ∙ sym (descent_same foot.top);
+    foot_is = sunk.foot_is ∙ sym (descent_same (length path));
     beside = subst (λ t. weight t ≤ Δ * weight light) (sym (foot_same)) sunk.beside;
     spine_is = ap (λ t. length (spine light t)) (seen_stays flip a b top stays) ∙ sunk.spine_is;
   }
     where
-      foot_same : seen flip b foot.cell ≡ seen flip a foot.cell
-      foot_same = ap (seen flip b) (sunk.foot_is ∙ sym (descent_same foot.top)) ∙ level_same foot.top ∙ ap (seen flip a) (sym sunk.foot_is)
+      foot_same : seen flip b foot ≡ seen flip a foot
+      foot_same = ap (seen flip b) (sunk.foot_is ∙ sym (descent_same (length path))) ∙ level_same (length path) ∙ ap (seen flip a) (sym sunk.foot_is)
 
 -- ---- the levels
 
 module _ {E A S : Type 0} (k : Meaning E A S) (flip : Bool) (a : List (Cell E S)) (sound : Sound k a) (top : ℕ) (top_live : Live a top)
     (L : Tree E) (e : E) (balanced : Balanced L) (linkable : Linkable k L e (seen flip a top)) (light : weight L ≤ Δ * weight (seen flip a top))
-    (table : List ℕ) (foot : Foot) (sunk : Sunk k flip a L top table foot) where
+    (path : List ℕ) (foot : ℕ) (sunk : Sunk k flip a L top path foot) where
   abbrev t : ℕ → Tree E
   t j = seen flip a (descent flip a top j)
 
   abbrev n : ℕ
-  n = foot.top
+  n = length path
 
   pub descent_live : (j : ℕ) → Live a (descent flip a top j)
   descent_live j = let d = descent_path flip a top j in subst (Live a) d.1 (reached_live k a sound top d.0 top_live)
@@ -170,7 +168,7 @@ module _ {E A S : Type 0} (k : Meaning E A S) (flip : Bool) (a : List (Cell E S)
   climbed_from (suc j) h =
       climbed_more flip a top j (hung L e (t (suc j))) ∙ ap (climbed flip a top j) (raised_hung j (omega arith)) ∙ climbed_from j (omega arith)
 
-  pub foot_tree : seen flip a foot.cell ≡ t n
+  pub foot_tree : seen flip a foot ≡ t n
   foot_tree = ap (seen flip a) sunk.foot_is
 
   foot_hung : hung L e (t n) ≡ node L e (t n)

@@ -1,5 +1,5 @@
 -- The two sides of cells and trees.
-use Rattle.std.proofs.Common.{◌≡◌, ℕ, ◌<◌, Bool, true, false, List, ◌∷◌, Some, sym, refl, ap, ◌∙◌, subst, arith}
+use Rattle.std.proofs.Common.{◌≡◌, ℕ, ◌<◌, Bool, true, false, List, [], ◌∷◌, Some, sym, refl, ap, ◌∙◌, subst, arith}
 use Rattle.std.specs.List.{slice_get}
 use Rattle.kinds.specs.Kinds.{Meaning}
 use Rattle.balance.specs.Trees.{Tree, node, count, mirror, Balanced}
@@ -12,7 +12,7 @@ use Rattle.cells.specs.declared.pool.Pool.{Pool}
 use Rattle.cells.specs.Cells.{shape, cell_count, tree, facing, seen, near, far, Live, Good, Sound}
 use Rattle.cells.specs.Reach.{Stays}
 use Rattle.cells.specs.References.{Arena}
-use Rattle.cells.specs.Moves.{Fits, Yields}
+use Rattle.cells.specs.Moves.{Fits, Yields, Makes}
 use Rattle.cells.proofs.Trees.{known, opened}
 use Rattle.cells.proofs.Staying.{child_stays}
 use Rattle.cells.proofs.Arenas.{rerooted}
@@ -73,18 +73,18 @@ far_stays false a b i c at stays = child_stays a b i c true at stays
 far_stays true a b i c at stays = child_stays a b i c false at stays
 
 -- one function for both sides
-module _ {E A S : Type 0} (k : Meaning E A S) (flip : Bool) (a : List (Cell E S)) (p : Pool) (left : ℕ) (item : Item E S) (right : ℕ) where
-  pub fits_flipped : flip ≡ true → Fits k (seen flip a left) item (seen flip a right) → Fits k (tree a right) item (tree a left)
-  fits_flipped e fits = fits_turned k (tree a left) item (tree a right) (subst (λ f. Fits k (seen f a left) item (seen f a right)) e fits)
+pub fits_flipped : {E A S : Type 0} {k : Meaning E A S} {flip : Bool} (a : List (Cell E S)) (left right : ℕ) {item : Item E S} → flip ≡ true
+    → Fits k (seen flip a left) item (seen flip a right) → Fits k (tree a right) item (tree a left)
+fits_flipped {k} a left right {item} e fits = fits_turned k (tree a left) item (tree a right) (subst (λ f. Fits k (seen f a left) item (seen f a right)) e fits)
 
-  module _ (b : List (Cell E S)) (q : Pool) (r : ℕ) where
-    pub yields_flipped : flip ≡ true → ((rs : List ℕ) → Arena k a p (right ∷ left ∷ rs) → Yields k false a p rs b q r (node (tree a right) item.element (tree a left)) 1)
-        → (rs : List ℕ) → Arena k a p (left ∷ right ∷ rs) → Yields k flip a p rs b q r (node (seen flip a left) item.element (seen flip a right)) 1
-    yields_flipped e yields rs arena =
-        let y = yields rs (arena_turned k a p left right rs arena) in
-        let turned : Yields k true a p rs b q r (node (seen true a left) item.element (seen true a right)) 1 = record { moved = y.moved; tree_is = ap mirror y.tree_is } in
-        subst (λ f. Yields k f a p rs b q r (node (seen f a left) item.element (seen f a right)) 1) (sym e) turned
+module _ {E A S : Type 0} {k : Meaning E A S} {flip : Bool} {a : List (Cell E S)} {p : Pool} {left : ℕ} {e : E} {right : ℕ} {b : List (Cell E S)} {q : Pool} {r : ℕ} where
+  pub makes_flipped : flip ≡ true → Makes k false a p (right ∷ left ∷ []) b q r (node (tree a right) e (tree a left)) 1
+      → Makes k flip a p (left ∷ right ∷ []) b q r (node (seen flip a left) e (seen flip a right)) 1
+  makes_flipped is makes rs arena =
+      let y = makes rs (arena_turned k a p left right rs arena) in
+      let turned : Yields k true a p rs b q r (node (seen true a left) e (seen true a right)) 1 = record { moved = y.moved; tree_is = ap mirror y.tree_is } in
+      subst (λ f. Yields k f a p rs b q r (node (seen f a left) e (seen f a right)) 1) (sym is) turned
 
-    pub yields_plain : flip ≡ false → ((rs : List ℕ) → Arena k a p (left ∷ right ∷ rs) → Yields k false a p rs b q r (node (tree a left) item.element (tree a right)) 1)
-        → (rs : List ℕ) → Arena k a p (left ∷ right ∷ rs) → Yields k flip a p rs b q r (node (seen flip a left) item.element (seen flip a right)) 1
-    yields_plain e yields rs arena = subst (λ f. Yields k f a p rs b q r (node (seen f a left) item.element (seen f a right)) 1) (sym e) (yields rs arena)
+  pub makes_plain : flip ≡ false → Makes k false a p (left ∷ right ∷ []) b q r (node (tree a left) e (tree a right)) 1
+      → Makes k flip a p (left ∷ right ∷ []) b q r (node (seen flip a left) e (seen flip a right)) 1
+  makes_plain is makes = subst (λ f. Makes k f a p (left ∷ right ∷ []) b q r (node (seen f a left) e (seen f a right)) 1) (sym is) makes

@@ -13,7 +13,7 @@ use Rattle.cells.specs.declared.pool.Pool.{Pool}
 use Rattle.cells.specs.Cells.{cell_count, seen}
 use Rattle.cells.specs.Reach.{Among}
 use Rattle.cells.specs.References.{Arena, Holds}
-use Rattle.cells.specs.Moves.{Moves, Fits, Yields, Releases}
+use Rattle.cells.specs.Moves.{Moves, Fits, Makes, Releases}
 use Rattle.cells.proofs.Names.{hit_same}
 use Rattle.cells.proofs.Arenas.{rooted, rerooted}
 use Rattle.cells.proofs.Moving.{moves_none, moves_more, moves_then, seen_stays}
@@ -55,7 +55,7 @@ rotated_count a y b e r =
 pub owned_count : {E A S : Type 0} (k : Meaning E A S) (flip : Bool) (a : List (Cell E S)) (p : Pool) (rs : List ℕ) → Arena k a p rs → (i : ℕ) → Among rs i → count (seen flip a i) ≡ cell_count a i
 owned_count k flip a p rs arena i among = seen_known k flip a arena.sound i (rooted k a p rs arena i among)
 
-module _ {E A S : Type 0} (k : Meaning E A S) (flip : Bool) (a : List (Cell E S)) (p : Pool) (x y z : ℕ) (top item : Item E S)
+module _ {E A S : Type 0} {k : Meaning E A S} (flip : Bool) {a : List (Cell E S)} {p : Pool} {x y z : ℕ} (top item : Item E S)
     (holds : Holds k a p (x ∷ y ∷ z ∷ []) (2 ^ 28)) (sits : Sits k (rotated (node (seen flip a x) top.element (seen flip a y)) item.element (seen flip a z))) where
   abbrev X : Tree E
   X = seen flip a x
@@ -79,7 +79,7 @@ module _ {E A S : Type 0} (k : Meaning E A S) (flip : Bool) (a : List (Cell E S)
   y_fits = omega (arith, y_counts, rotated_count X top.element Y item.element Z, sits.few)
 
   -- the test that the code makes
-  module _ (inner outer : ℕ) (inner-is : inner ≡ cell_count a y) (outer_is : outer ≡ cell_count a x) (once : Bool) (test : once ≡ ltb (inner + 1) (Γ * (outer + 1))) where
+  module _ {inner outer : ℕ} (inner_is : inner ≡ cell_count a y) (outer_is : outer ≡ cell_count a x) {once : Bool} (test : once ≡ ltb (inner + 1) (Γ * (outer + 1))) where
     on_weights : once ≡ ltb (weight Y) (Γ * weight X)
     on_weights =
         let i : inner + 1 ≡ weight Y = omega (arith, y_counts) in
@@ -101,20 +101,20 @@ module _ {E A S : Type 0} (k : Meaning E A S) (flip : Bool) (a : List (Cell E S)
     pub inner_heavy : once ≡ false → 1 < weight Y
     inner_heavy t = let f : ltb (weight Y) (Γ * weight X) ≡ false = sym on_weights ∙ t in omega tests
 
-    module _ (b : List (Cell E S)) (q : Pool) (r : ℕ) where
-      pub yields_once : once ≡ true → ((rs : List ℕ) → Arena k a p (x ∷ y ∷ z ∷ rs) → Yields k flip a p rs b q r (node X top.element (node Y item.element Z)) 2)
-          → (rs : List ℕ) → Arena k a p (x ∷ y ∷ z ∷ rs) → Yields k flip a p rs b q r (rotated (node X top.element Y) item.element Z) 3
+    module _ {b : List (Cell E S)} {q : Pool} {r : ℕ} where
+      pub yields_once : once ≡ true → (Makes k flip a p (x ∷ y ∷ z ∷ []) b q r (node X top.element (node Y item.element Z)) 2)
+          → Makes k flip a p (x ∷ y ∷ z ∷ []) b q r (rotated (node X top.element Y) item.element Z) 3
       yields_once t yields rs arena =
           let w = yields rs arena in
           record { moved = moves_more k a p (x ∷ y ∷ z ∷ []) b q (r ∷ []) 2 3 (omega arith) (λ rs ar. (yields rs ar).moved) rs arena; tree_is = w.tree_is ∙ sym (once_same t) }
 
-      pub yields_twice : once ≡ false → ((rs : List ℕ) → Arena k a p (x ∷ y ∷ z ∷ rs) → Yields k flip a p rs b q r (rotated_twice X top.element Y item.element Z) 3)
-          → (rs : List ℕ) → Arena k a p (x ∷ y ∷ z ∷ rs) → Yields k flip a p rs b q r (rotated (node X top.element Y) item.element Z) 3
+      pub yields_twice : once ≡ false → (Makes k flip a p (x ∷ y ∷ z ∷ []) b q r (rotated_twice X top.element Y item.element Z) 3)
+          → Makes k flip a p (x ∷ y ∷ z ∷ []) b q r (rotated (node X top.element Y) item.element Z) 3
       yields_twice t yields rs arena = let w = yields rs arena in record { moved = w.moved; tree_is = w.tree_is ∙ sym (twice_same t) }
 
 -- ---- rebalancing
 
-module _ {E A S : Type 0} (k : Meaning E A S) (flip : Bool) (a : List (Cell E S)) (p : Pool) (x z : ℕ) (item : Item E S)
+module _ {E A S : Type 0} {k : Meaning E A S} (flip : Bool) {a : List (Cell E S)} {p : Pool} {x z : ℕ} (item : Item E S)
     (holds : Holds k a p (x ∷ z ∷ []) (2 ^ 27)) (sits : Sits k (rebalanced (seen flip a x) item.element (seen flip a z))) where
   abbrev L : Tree E
   L = seen flip a x
@@ -137,7 +137,10 @@ module _ {E A S : Type 0} (k : Meaning E A S) (flip : Bool) (a : List (Cell E S)
   pub right_fits : cell_count a z + 1 < 2 ^ 32
   right_fits = omega (arith, r_counts, all_count)
 
-  module _ (heavy light : ℕ) (heavy_of : heavy ≡ cell_count a x) (light_of : light ≡ cell_count a z) (too : Bool) (test : too ≡ ltb (Δ * (light + 1)) (heavy + 1)) where
+  pub heavy_holds : Holds k a p (x ∷ []) (2 ^ 29)
+  heavy_holds = record { rest = z ∷ holds.rest; arena = holds.arena; few = omega (arith, holds.few) }
+
+  module _ {heavy light : ℕ} (heavy_of : heavy ≡ cell_count a x) (light_of : light ≡ cell_count a z) {too : Bool} (test : too ≡ ltb (Δ * (light + 1)) (heavy + 1)) where
     weighs : too ≡ ltb (Δ * weight R) (weight L)
     weighs =
         let h : heavy + 1 ≡ weight L = omega (arith, l_counts) in
@@ -153,20 +156,17 @@ module _ {E A S : Type 0} (k : Meaning E A S) (flip : Bool) (a : List (Cell E S)
     pub even_fits : too ≡ false → Whole k item → Fits k L item R
     even_fits t whole = sits_fits k L item R (subst (Sits k) (even_same t) sits) whole
 
-    pub yields_even : too ≡ false → (b : List (Cell E S)) (q : Pool) (r : ℕ) → ((rs : List ℕ) → Arena k a p (x ∷ z ∷ rs) → Yields k flip a p rs b q r (node L item.element R) 1)
-        → (rs : List ℕ) → Arena k a p (x ∷ z ∷ rs) → Yields k flip a p rs b q r (rebalanced L item.element R) 3
-    yields_even t b q r yields rs arena =
+    pub yields_even : too ≡ false → {b : List (Cell E S)} {q : Pool} {r : ℕ} → (Makes k flip a p (x ∷ z ∷ []) b q r (node L item.element R) 1)
+        → Makes k flip a p (x ∷ z ∷ []) b q r (rebalanced L item.element R) 3
+    yields_even t {b} {q} {r} yields rs arena =
         record { moved = moves_more k a p (x ∷ z ∷ []) b q (r ∷ []) 1 3 (omega arith) (λ rs ar. (yields rs ar).moved) rs arena; tree_is = (yields rs arena).tree_is ∙ sym (even_same t) }
-
-    pub heavy_holds : Holds k a p (x ∷ []) (2 ^ 29)
-    heavy_holds = record { rest = z ∷ holds.rest; arena = holds.arena; few = omega (arith, holds.few) }
 
     pub heavy_inside : too ≡ true → x < length a
     heavy_inside t =
         let f : ltb (Δ * weight R) (weight L) ≡ true = sym weighs ∙ t in
         seen_inside k flip a holds.arena.sound x (rooted k a p (x ∷ z ∷ holds.rest) holds.arena x (let h = hit_same x in omega arith)) (omega tests)
 
-    module _ (t : too ≡ true) (b : List (Cell E S)) (parts : Parts E S) (opens : Opens k flip a x b parts) where
+    module _ (t : too ≡ true) {b : List (Cell E S)} {parts : Parts E S} (opens : Opens k flip a x b parts) where
       open_move : Moves k a p (x ∷ z ∷ []) b p (x ∷ z ∷ parts.near ∷ parts.far ∷ []) (0 + 0)
       open_move = moves_then k a p (x ∷ z ∷ []) a p (x ∷ z ∷ []) 0 (moves_none k a p (x ∷ z ∷ [])) (x ∷ []) (z ∷ []) (λ i. omega arith)
           b p (x ∷ parts.near ∷ parts.far ∷ []) 0 (opened_moves k flip a p x b parts opens) (x ∷ z ∷ parts.near ∷ parts.far ∷ []) (λ i. omega arith)
@@ -189,8 +189,8 @@ module _ {E A S : Type 0} (k : Meaning E A S) (flip : Bool) (a : List (Cell E S)
       pub turned_sits : Sits k (rotated P item.element (seen flip b z))
       turned_sits = subst (Sits k) turned_is sits
 
-      module _ (c : List (Cell E S)) (q : Pool) (r : ℕ)
-          (turn : (rs : List ℕ) → Arena k b p (parts.near ∷ parts.far ∷ z ∷ rs) → Yields k flip b p rs c q r (rotated P item.element (seen flip b z)) 3) where
+      module _ {c : List (Cell E S)} {q : Pool} {r : ℕ}
+          (turn : Makes k flip b p (parts.near ∷ parts.far ∷ z ∷ []) c q r (rotated P item.element (seen flip b z)) 3) where
         turn_move : Moves k a p (x ∷ z ∷ []) c q (r ∷ x ∷ []) (0 + 3)
         turn_move = moves_then k a p (x ∷ z ∷ []) b p (x ∷ z ∷ parts.near ∷ parts.far ∷ []) 0 open_move (parts.near ∷ parts.far ∷ z ∷ []) (x ∷ []) (λ i. omega arith)
             c q (r ∷ []) 3 (λ rs ar. (turn rs ar).moved) (r ∷ x ∷ []) (λ i. omega arith)
@@ -204,8 +204,8 @@ module _ {E A S : Type 0} (k : Meaning E A S) (flip : Bool) (a : List (Cell E S)
             let s = seen_stays flip b c x ((turn (x ∷ holds.rest) open_arena).moved.stay x (let h = hit_same x in omega arith)) in
             omega (arith, ap count s, ap count (open_stay x (let h = hit_same x in omega arith)), all_count)
 
-        module _ (d : List (Cell E S)) (o : Pool) (drop : (rs : List ℕ) → Arena k c q (x ∷ rs) → Releases k c q rs d o) where
-          pub yields_heavy : (rs : List ℕ) → Arena k a p (x ∷ z ∷ rs) → Yields k flip a p rs d o r (rebalanced L item.element R) 3
+        module _ {d : List (Cell E S)} {o : Pool} (drop : (rs : List ℕ) → Arena k c q (x ∷ rs) → Releases k c q rs d o) where
+          pub yields_heavy : Makes k flip a p (x ∷ z ∷ []) d o r (rebalanced L item.element R) 3
           yields_heavy rs arena = record {
             moved = moves_then k a p (x ∷ z ∷ []) c q (r ∷ x ∷ []) 3 turn_move (x ∷ []) (r ∷ []) (λ i. omega arith) d o [] 0 (λ rs ar. (drop rs ar).moved) (r ∷ []) (λ i. omega arith) rs arena;
             tree_is = seen_stays flip c d r ((drop (r ∷ holds.rest) turn_arena).moved.stay r (let h = hit_same r in omega arith)) ∙ (turn (x ∷ holds.rest) open_arena).tree_is ∙ sym turned_is;

@@ -11,7 +11,7 @@ use Rattle.cells.specs.declared.pool.Pool.{Pool}
 use Rattle.cells.specs.Cells.{counted, cell_count, seen, Live, Sound}
 use Rattle.cells.specs.Reach.{Among}
 use Rattle.cells.specs.References.{Arena, Holds}
-use Rattle.cells.specs.Moves.{Moves, Fits, Yields, Releases}
+use Rattle.cells.specs.Moves.{Moves, Fits, Makes, Releases}
 use Rattle.cells.proofs.Lists.{some_in}
 use Rattle.cells.proofs.Names.{hit_same}
 use Rattle.cells.proofs.Arenas.{rooted, rerooted}
@@ -47,7 +47,7 @@ opened_moves k flip a p i b parts opens rs arena =
       free = m.free;
     }
 
-module _ {E A S : Type 0} (k : Meaning E A S) (flip : Bool) (a : List (Cell E S)) (p : Pool) (x y z : ℕ) (top item : Item E S)
+module _ {E A S : Type 0} {k : Meaning E A S} (flip : Bool) {a : List (Cell E S)} {p : Pool} {x y z : ℕ} (top item : Item E S)
     (holds : Holds k a p (x ∷ y ∷ z ∷ []) (2 ^ 28)) where
   abbrev rest : List ℕ
   rest = holds.rest
@@ -73,7 +73,7 @@ module _ {E A S : Type 0} (k : Meaning E A S) (flip : Bool) (a : List (Cell E S)
   pub far_inside : 1 < weight Y → y < length a
   far_inside h = seen_inside k flip a holds.arena.sound y far_live h
 
-  module _ (sits : Sits k (rotated_twice X top.element Y item.element Z)) (b : List (Cell E S)) (inner : Parts E S) (opens : Opens k flip a y b inner) where
+  module _ (sits : Sits k (rotated_twice X top.element Y item.element Z)) {b : List (Cell E S)} {inner : Parts E S} (opens : Opens k flip a y b inner) where
     abbrev C : Tree E
     C = seen flip b inner.near
 
@@ -100,8 +100,8 @@ module _ {E A S : Type 0} (k : Meaning E A S) (flip : Bool) (a : List (Cell E S)
     fits_1 w = subst (λ t. Fits k t top C) (sym (stay_1 x (let h = hit_same x in omega arith)))
         (sits_fits k X top C (sits_left k (node X top.element C) inner.item.element (node D item.element Z) result_sits) w)
 
-    module _ (b2 : List (Cell E S)) (q2 : Pool) (l : ℕ)
-        (one : (rs : List ℕ) → Arena k b p (x ∷ inner.near ∷ rs) → Yields k flip b p rs b2 q2 l (node (seen flip b x) top.element C) 1) where
+    module _ {b2 : List (Cell E S)} {q2 : Pool} {l : ℕ}
+        (one : Makes k flip b p (x ∷ inner.near ∷ []) b2 q2 l (node (seen flip b x) top.element C) 1) where
       move_2 : Moves k a p (x ∷ y ∷ z ∷ []) b2 q2 (l ∷ y ∷ z ∷ inner.far ∷ []) (0 + 1)
       move_2 = moves_then k a p (x ∷ y ∷ z ∷ []) b p (x ∷ y ∷ z ∷ inner.near ∷ inner.far ∷ []) 0 move_1 (x ∷ inner.near ∷ []) (y ∷ z ∷ inner.far ∷ []) (λ i. omega arith)
           b2 q2 (l ∷ []) 1 (λ rs ar. (one rs ar).moved) (l ∷ y ∷ z ∷ inner.far ∷ []) (λ i. omega arith)
@@ -125,8 +125,8 @@ module _ {E A S : Type 0} (k : Meaning E A S) (flip : Bool) (a : List (Cell E S)
       fits_2 w = subst (λ t. Fits k t item (seen flip b2 z)) (sym d_is) (subst (λ t. Fits k D item t) (sym z_is)
           (sits_fits k D item Z (sits_right k (node X top.element C) inner.item.element (node D item.element Z) result_sits) w))
 
-      module _ (b3 : List (Cell E S)) (q3 : Pool) (r : ℕ)
-          (two : (rs : List ℕ) → Arena k b2 q2 (inner.far ∷ z ∷ rs) → Yields k flip b2 q2 rs b3 q3 r (node (seen flip b2 inner.far) item.element (seen flip b2 z)) 1) where
+      module _ {b3 : List (Cell E S)} {q3 : Pool} {r : ℕ}
+          (two : Makes k flip b2 q2 (inner.far ∷ z ∷ []) b3 q3 r (node (seen flip b2 inner.far) item.element (seen flip b2 z)) 1) where
         move_3 : Moves k a p (x ∷ y ∷ z ∷ []) b3 q3 (l ∷ r ∷ y ∷ []) (1 + 1)
         move_3 = moves_then k a p (x ∷ y ∷ z ∷ []) b2 q2 (l ∷ y ∷ z ∷ inner.far ∷ []) 1 move_2 (inner.far ∷ z ∷ []) (l ∷ y ∷ []) (λ i. omega arith)
             b3 q3 (r ∷ []) 1 (λ rs ar. (two rs ar).moved) (l ∷ r ∷ y ∷ []) (λ i. omega arith)
@@ -147,8 +147,8 @@ module _ {E A S : Type 0} (k : Meaning E A S) (flip : Bool) (a : List (Cell E S)
         fits_3 = subst (λ t. Fits k t inner.item (seen flip b3 r)) (sym l_still) (subst (λ t. Fits k (node X top.element C) inner.item t) (sym r_is)
             (sits_fits k (node X top.element C) inner.item (node D item.element Z) result_sits opens.whole))
 
-        module _ (b4 : List (Cell E S)) (q4 : Pool) (t : ℕ)
-            (three : (rs : List ℕ) → Arena k b3 q3 (l ∷ r ∷ rs) → Yields k flip b3 q3 rs b4 q4 t (node (seen flip b3 l) inner.item.element (seen flip b3 r)) 1) where
+        module _ {b4 : List (Cell E S)} {q4 : Pool} {t : ℕ}
+            (three : Makes k flip b3 q3 (l ∷ r ∷ []) b4 q4 t (node (seen flip b3 l) inner.item.element (seen flip b3 r)) 1) where
           move_4 : Moves k a p (x ∷ y ∷ z ∷ []) b4 q4 (t ∷ y ∷ []) (2 + 1)
           move_4 = moves_then k a p (x ∷ y ∷ z ∷ []) b3 q3 (l ∷ r ∷ y ∷ []) 2 move_3 (l ∷ r ∷ []) (y ∷ []) (λ i. omega arith)
               b4 q4 (t ∷ []) 1 (λ rs ar. (three rs ar).moved) (t ∷ y ∷ []) (λ i. omega arith)
@@ -169,8 +169,8 @@ module _ {E A S : Type 0} (k : Meaning E A S) (flip : Bool) (a : List (Cell E S)
               let n = seen_known k flip b4 arena_4.sound y (rooted k b4 q4 (y ∷ (t ∷ rest)) arena_4 y (let h = hit_same y in omega arith)) in
               omega (arith, ap count y_is, ap count opens.tree_is, result_sits.few)
 
-          module _ (b5 : List (Cell E S)) (q5 : Pool) (four : (rs : List ℕ) → Arena k b4 q4 (y ∷ rs) → Releases k b4 q4 rs b5 q5) where
-            pub rotated_twice_lem : (rs : List ℕ) → Arena k a p (x ∷ y ∷ z ∷ rs) → Yields k flip a p rs b5 q5 t (rotated_twice X top.element Y item.element Z) 3
+          module _ {b5 : List (Cell E S)} {q5 : Pool} (four : (rs : List ℕ) → Arena k b4 q4 (y ∷ rs) → Releases k b4 q4 rs b5 q5) where
+            pub rotated_twice_lem : Makes k flip a p (x ∷ y ∷ z ∷ []) b5 q5 t (rotated_twice X top.element Y item.element Z) 3
             rotated_twice_lem rs ar = record {
               moved = moves_then k a p (x ∷ y ∷ z ∷ []) b4 q4 (t ∷ y ∷ []) 3 move_4 (y ∷ []) (t ∷ []) (λ i. omega arith)
                   b5 q5 [] 0 (λ rs ar. (four rs ar).moved) (t ∷ []) (λ i. omega arith) rs ar;

@@ -12,7 +12,7 @@ use Rattle.cells.specs.declared.item.Item.{Item}
 use Rattle.cells.specs.declared.pool.Pool.{Pool}
 use Rattle.cells.specs.Cells.{shape, cell_count, tree}
 use Rattle.cells.specs.References.{Arena, Holds}
-use Rattle.cells.specs.Moves.{Fits, Yields}
+use Rattle.cells.specs.Moves.{Fits, Yields, Makes}
 use Rattle.cells.proofs.Names.{hit_same}
 use Rattle.cells.proofs.Arenas.{rerooted}
 use Rattle.links.specs.Opened.{Whole}
@@ -42,10 +42,10 @@ even_cost l r right left = ap (λ n. 3 * n + 1) (weighed_even (weight l) (weight
 
 -- what a call of link ensures
 pub record Linked {E A S : Type 0} (k : Meaning E A S) (a : List (Cell E S)) (p : Pool) (x : ℕ) (e : E) (y : ℕ) (b : List (Cell E S)) (q : Pool) (r : ℕ) : Type 0 where
-  pub yields : (rs : List ℕ) → Arena k a p (x ∷ y ∷ rs) → Yields k false a p rs b q r (link (tree a x) e (tree a y)) (link_cost (tree a x) (tree a y))
+  pub yields : Makes k false a p (x ∷ y ∷ []) b q r (link (tree a x) e (tree a y)) (link_cost (tree a x) (tree a y))
   pub order : elements (tree b r) ≡ elements (tree a x) ++ (e ∷ elements (tree a y))
 
-module _ {E A S : Type 0} (k : Meaning E A S) (a : List (Cell E S)) (p : Pool) (x y : ℕ) (item : Item E S) (holds : Holds k a p (x ∷ y ∷ []) (2 ^ 24))
+module _ {E A S : Type 0} {k : Meaning E A S} {a : List (Cell E S)} {p : Pool} {x y : ℕ} (item : Item E S) (holds : Holds k a p (x ∷ y ∷ []) (2 ^ 24))
     (linkable : Linkable k (tree a x) item.element (tree a y)) where
   abbrev L : Tree E
   L = tree a x
@@ -80,16 +80,16 @@ module _ {E A S : Type 0} (k : Meaning E A S) (a : List (Cell E S)) (p : Pool) (
     short = omega (arith, linkable.short, mirror_span (shape k) L, mirror_span (shape k) R);
   }
 
-  module _ (b : List (Cell E S)) (q : Pool) (r : ℕ) where
-    linked : ((rs : List ℕ) → Arena k a p (x ∷ y ∷ rs) → Yields k false a p rs b q r (link L e R) (link_cost L R)) → Linked k a p x e y b q r
+  module _ {b : List (Cell E S)} {q : Pool} {r : ℕ} where
+    linked : (Makes k false a p (x ∷ y ∷ []) b q r (link L e R) (link_cost L R)) → Linked k a p x e y b q r
     linked yields = record { yields = yields; order = ap elements (yields holds.rest holds.arena).tree_is ∙ link_elements L e R }
 
-    linked_by : (t : Tree E) (n : ℕ) → t ≡ link L e R → n ≡ link_cost L R → ((rs : List ℕ) → Arena k a p (x ∷ y ∷ rs) → Yields k false a p rs b q r t n) → Linked k a p x e y b q r
+    linked_by : (t : Tree E) (n : ℕ) → t ≡ link L e R → n ≡ link_cost L R → (Makes k false a p (x ∷ y ∷ []) b q r t n) → Linked k a p x e y b q r
     linked_by t n t_is n_is yields = linked (λ rs ar. subst (Yields k false a p rs b q r (link L e R)) n_is (subst (λ u. Yields k false a p rs b q r u n) t_is (yields rs ar)))
 
   -- the two tests that the code makes
-  module _ (before behind : ℕ) (before_is : before ≡ cell_count a x) (behind_is : behind ≡ cell_count a y) where
-    module _ (too : Bool) (test : too ≡ ltb (Δ * (before + 1)) (behind + 1)) where
+  module _ {before behind : ℕ} (before_is : before ≡ cell_count a x) (behind_is : behind ≡ cell_count a y) where
+    module _ {too : Bool} (test : too ≡ ltb (Δ * (before + 1)) (behind + 1)) where
       right_heavy : too ≡ true → Δ * weight L < weight R
       right_heavy t = let f : ltb (Δ * (before + 1)) (behind + 1) ≡ true = sym test ∙ t in omega (tests, x_counts, y_counts)
 
@@ -102,11 +102,11 @@ module _ {E A S : Type 0} (k : Meaning E A S) (a : List (Cell E S)) (p : Pool) (
       pub right_some : too ≡ true → link_cost L R ≤ p.free → 3 * length (spine L R) + 1 ≤ p.free
       right_some t some = omega (arith, right_cost L R (right_heavy t))
 
-      pub linked_right : too ≡ true → (b : List (Cell E S)) (q : Pool) (r : ℕ)
-          → ((rs : List ℕ) → Arena k a p (x ∷ y ∷ rs) → Yields k false a p rs b q r (hung L e R) (3 * length (spine L R) + 1)) → Linked k a p x e y b q r
-      linked_right t b q r yields = linked_by b q r (hung L e R) (3 * length (spine L R) + 1) (sym (link_right L e R (right_heavy t))) (sym (right_cost L R (right_heavy t))) yields
+      pub linked_right : too ≡ true → {b : List (Cell E S)} {q : Pool} {r : ℕ}
+          → (Makes k false a p (x ∷ y ∷ []) b q r (hung L e R) (3 * length (spine L R) + 1)) → Linked k a p x e y b q r
+      linked_right t yields = linked_by (hung L e R) (3 * length (spine L R) + 1) (sym (link_right L e R (right_heavy t))) (sym (right_cost L R (right_heavy t))) yields
 
-      module _ (other : Bool) (second : other ≡ ltb (Δ * (behind + 1)) (before + 1)) where
+      module _ {other : Bool} (second : other ≡ ltb (Δ * (behind + 1)) (before + 1)) where
         left_heavy : other ≡ true → Δ * weight R < weight L
         left_heavy t = let f : ltb (Δ * (behind + 1)) (before + 1) ≡ true = sym second ∙ t in omega (tests, x_counts, y_counts)
 
@@ -119,10 +119,10 @@ module _ {E A S : Type 0} (k : Meaning E A S) (a : List (Cell E S)) (p : Pool) (
         pub left_some : other ≡ true → link_cost L R ≤ p.free → 3 * length (spine (mirror R) (mirror L)) + 1 ≤ p.free
         left_some t some = omega (arith, left_cost L R (left_heavy t))
 
-        pub linked_left : other ≡ true → (b : List (Cell E S)) (q : Pool) (r : ℕ)
-            → ((rs : List ℕ) → Arena k a p (y ∷ x ∷ rs) → Yields k true a p rs b q r (hung (mirror R) e (mirror L)) (3 * length (spine (mirror R) (mirror L)) + 1)) → Linked k a p x e y b q r
-        linked_left t b q r yields =
-            linked_by b q r (mirror (hung (mirror R) e (mirror L))) (3 * length (spine (mirror R) (mirror L)) + 1) (sym (link_left L e R (left_heavy t))) (sym (left_cost L R (left_heavy t)))
+        pub linked_left : other ≡ true → {b : List (Cell E S)} {q : Pool} {r : ℕ}
+            → (Makes k true a p (y ∷ x ∷ []) b q r (hung (mirror R) e (mirror L)) (3 * length (spine (mirror R) (mirror L)) + 1)) → Linked k a p x e y b q r
+        linked_left t {b} {r = r} yields =
+            linked_by (mirror (hung (mirror R) e (mirror L))) (3 * length (spine (mirror R) (mirror L)) + 1) (sym (link_left L e R (left_heavy t))) (sym (left_cost L R (left_heavy t)))
             (λ rs ar. let w = yields rs (turned rs ar) in record { moved = w.moved; tree_is = sym (mirror_mirror (tree b r)) ∙ ap mirror w.tree_is })
 
         pub even_fits : too ≡ false → other ≡ false → Whole k item → Fits k L item R
@@ -138,6 +138,6 @@ module _ {E A S : Type 0} (k : Meaning E A S) (a : List (Cell E S)) (p : Pool) (
         pub even_some : too ≡ false → other ≡ false → link_cost L R ≤ p.free → 0 < p.free
         even_some s t some = omega (arith, even_cost L R (right_light s) (left_light t))
 
-        pub linked_even : too ≡ false → other ≡ false → (b : List (Cell E S)) (q : Pool) (r : ℕ)
-            → ((rs : List ℕ) → Arena k a p (x ∷ y ∷ rs) → Yields k false a p rs b q r (node L e R) 1) → Linked k a p x e y b q r
-        linked_even s t b q r yields = linked_by b q r (node L e R) 1 (sym (link_even L e R (right_light s) (left_light t))) (sym (even_cost L R (right_light s) (left_light t))) yields
+        pub linked_even : too ≡ false → other ≡ false → {b : List (Cell E S)} {q : Pool} {r : ℕ}
+            → (Makes k false a p (x ∷ y ∷ []) b q r (node L e R) 1) → Linked k a p x e y b q r
+        linked_even s t yields = linked_by (node L e R) 1 (sym (link_even L e R (right_light s) (left_light t))) (sym (even_cost L R (right_light s) (left_light t))) yields

@@ -11,7 +11,6 @@ use Rattle.cells.specs.Cells.{seen}
 use Rattle.cells.specs.Reach.{child, Reached, Stays}
 use Rattle.cells.specs.References.{Arena}
 use Rattle.cells.specs.Moves.{Moves}
-use Rattle.links.specs.declared.foot.Foot.{Foot}
 use Rattle.links.specs.Sitting.{Sits}
 
 -- the tree t with u in the place of its left child, rebalanced
@@ -30,12 +29,11 @@ module _ {E S : Type 0} (flip : Bool) (cells : List (Cell E S)) (top : ℕ) wher
   climbed zero u = u
   climbed (suc n) u = climbed n (raised u (seen flip cells (descent n)))
 
-  -- the table has the first links of a descent, each of a cell
-  pub record Tabled (table : List ℕ) (n : ℕ) : Type 0 where
-    pub size : length table ≡ 64
-    pub low : n ≤ deepest
-    pub are : (j : ℕ) → j < n → slice_index table j ≡ descent j
-    pub inside : (j : ℕ) → j < n → slice_index table j < length cells
+  -- the path has the first links of a descent, each of a cell
+  pub record Tabled (path : List ℕ) : Type 0 where
+    pub low : length path ≤ deepest
+    pub are : (j : ℕ) → j < length path → slice_index path j ≡ descent j
+    pub inside : (j : ℕ) → j < length path → slice_index path j < length cells
 
 -- each tree on the way up can stand in cells
 unfoldable pub Climbs : {E A S : Type 0} → Meaning E A S → Bool → List (Cell E S) → ℕ → ℕ → Tree E → Type 0
@@ -56,11 +54,11 @@ pub record Raises {E A S : Type 0} (k : Meaning E A S) (flip : Bool) (a : List (
   pub stays : Stays a b top
   pub tree_is : seen flip b r ≡ t
 
--- A tree went down the near side of another while that outweighed it. The table has what it passed, and the foot is the
+-- A tree went down the near side of another while that outweighed it. The path has what it passed, and the foot is the
 -- first that it can stand beside.
-pub record Sunk {E A S : Type 0} (k : Meaning E A S) (flip : Bool) (cells : List (Cell E S)) (light : Tree E) (top : ℕ) (table : List ℕ) (foot : Foot) : Type 0 where
-  pub tabled : Tabled flip cells top table foot.top
-  pub passed : (j : ℕ) → j < foot.top → Δ * weight light < weight (seen flip cells (descent flip cells top j))
-  pub foot_is : foot.cell ≡ descent flip cells top foot.top
-  pub beside : weight (seen flip cells foot.cell) ≤ Δ * weight light
-  pub spine_is : length (spine light (seen flip cells top)) ≡ foot.top
+pub record Sunk {E A S : Type 0} (k : Meaning E A S) (flip : Bool) (cells : List (Cell E S)) (light : Tree E) (top : ℕ) (path : List ℕ) (foot : ℕ) : Type 0 where
+  pub tabled : Tabled flip cells top path
+  pub passed : (j : ℕ) → j < length path → Δ * weight light < weight (seen flip cells (descent flip cells top j))
+  pub foot_is : foot ≡ descent flip cells top (length path)
+  pub beside : weight (seen flip cells foot) ≤ Δ * weight light
+  pub spine_is : length (spine light (seen flip cells top)) ≡ length path

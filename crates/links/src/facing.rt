@@ -1,9 +1,10 @@
-// Cells as they are, or seen in a mirror: only these functions look at `flip`.
-ghost use Rattle.std.specs.Prelude.{◌≡◌, ℕ, ◌+◌, ◌<◌, List, ◌∷◌};
+// Cells as they are, or seen in a mirror: only these functions look at `flip`. It stays a bool, for near, far and seen of the
+// specs are over one: an enum would be translated in every clause.
+ghost use Rattle.std.specs.Prelude.{◌≡◌, ◌+◌, ◌<◌, [], ◌∷◌};
 ghost use Rattle.balance.specs.Trees.{node};
 ghost use Rattle.cells.specs.Cells.{seen, near, far};
-ghost use Rattle.cells.specs.References.{Arena};
-ghost use Rattle.cells.specs.Moves.{Fits, Yields};
+ghost use Rattle.cells.specs.References.{Owned};
+ghost use Rattle.cells.specs.Moves.{Fits, Makes};
 
 use cells::{Cell, Item, Pool, make};
 use kinds::Kind;
@@ -22,7 +23,8 @@ pub fn far_of<E: Copy, S: Copy>(flip: bool, c: Cell<E, S>) -> u32
     if flip { c.left } else { c.right }
 }
 
-// A new cell, seen with the tree of `left` on the left.
+// A new cell, seen with the tree of `left` on the left. A helper that orders any call's roots by `flip` would state that
+// call's contract once more, so each such call has its own.
 pub fn make_facing<K: Kind>(
     kind: &K,
     cells: &mut [Cell<K::Element, K::Summary>],
@@ -32,11 +34,10 @@ pub fn make_facing<K: Kind>(
     item: Item<K::Element, K::Summary>,
     right: u32,
 ) -> u32
-    requires owned { (rs : List ℕ) × Arena (K.meaning kind.now) cells.old pool.old (left ∷ right ∷ rs) }
+    requires owned { Owned (K.meaning kind.now) cells.old pool.old (left ∷ right ∷ []) }
     requires fits { Fits (K.meaning kind.now) (seen flip cells.old left) item (seen flip cells.old right) }
     requires some { 0 < pool.old.free }
-    ensures yields { (rs : List ℕ) → Arena (K.meaning kind.now) cells.old pool.old (left ∷ right ∷ rs)
-        → Yields (K.meaning kind.now) flip cells.old pool.old rs cells.new pool.new result
+    ensures yields { Makes (K.meaning kind.now) flip cells.old pool.old (left ∷ right ∷ []) cells.new pool.new result
         (node (seen flip cells.old left) item.element (seen flip cells.old right)) 1 }
     ensures taken { pool.new.free + 1 ≡ pool.old.free }
 {

@@ -1,17 +1,17 @@
 // Hanging a light tree into a heavy one.
-ghost use Rattle.std.specs.Prelude.{◌≡◌, ℕ, ◌+◌, ◌*◌, ◌^◌, ◌<◌, ◌≤◌, List, [], ◌∷◌, length};
+ghost use Rattle.std.specs.Prelude.{◌+◌, ◌*◌, ◌^◌, ◌<◌, ◌≤◌, [], ◌∷◌, length};
 ghost use Rattle.balance.specs.Trees.{weight, Δ};
 ghost use Rattle.balance.specs.Links.{hung, spine};
 ghost use Rattle.cells.specs.Cells.{seen};
-ghost use Rattle.cells.specs.References.{Arena, Holds};
-ghost use Rattle.cells.specs.Moves.{Yields};
+ghost use Rattle.cells.specs.References.{Holds};
+ghost use Rattle.cells.specs.Moves.{Makes};
 ghost use Rattle.links.specs.Opened.{Whole};
 ghost use Rattle.links.specs.Sitting.{Linkable};
 
 use crate::climbing::climb;
 use crate::facing::make_facing;
 use crate::sinking::sink;
-use cells::{Cell, Item, Pool, release, retain};
+use cells::{Cell, Item, Path, Pool, release, retain};
 use kinds::Kind;
 
 // The light tree of `left` goes down the near side of that of `right`; the item and it are put in there, and what was
@@ -30,16 +30,15 @@ pub fn hang<K: Kind>(
     requires heavy { Δ * weight (seen flip cells.old left) < weight (seen flip cells.old right) }
     requires whole { Whole (K.meaning kind.now) item }
     requires some { 3 * length (spine (seen flip cells.old left) (seen flip cells.old right)) + 1 ≤ pool.old.free }
-    ensures { (rs : List ℕ) → Arena (K.meaning kind.now) cells.old pool.old (left ∷ right ∷ rs)
-        → Yields (K.meaning kind.now) flip cells.old pool.old rs cells.new pool.new result
+    ensures { Makes (K.meaning kind.now) flip cells.old pool.old (left ∷ right ∷ []) cells.new pool.new result
         (hung (seen flip cells.old left) item.element (seen flip cells.old right))
         (3 * length (spine (seen flip cells.old left) (seen flip cells.old right)) + 1) }
 {
-    let mut table = [0u32; 64];
-    let foot = sink(kind, cells, flip, left, right, &mut table);
-    retain(kind, cells, foot.cell);
-    let low = make_facing(kind, cells, pool, flip, left, item, foot.cell);
-    let r = climb(kind, cells, pool, flip, low, right, &table, foot.top);
+    let mut path = Path::new();
+    let foot = sink(kind, cells, flip, left, right, &mut path);
+    retain(kind, cells, foot);
+    let low = make_facing(kind, cells, pool, flip, left, item, foot);
+    let r = climb(kind, cells, pool, flip, low, right, &path);
     release(kind, cells, pool, right);
     r
 }

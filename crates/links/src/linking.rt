@@ -1,11 +1,11 @@
 // Linking: all else that is made of trees is made by links.
-ghost use Rattle.std.specs.Prelude.{◌≡◌, ℕ, ◌^◌, ◌≤◌, false, List, [], ◌∷◌, ◌++◌};
+ghost use Rattle.std.specs.Prelude.{◌≡◌, ◌^◌, ◌≤◌, false, [], ◌∷◌, ◌++◌};
 ghost use Rattle.balance.specs.Trees.{elements};
 ghost use Rattle.balance.specs.Links.{link};
 ghost use Rattle.balance.specs.Costs.{link_cost};
 ghost use Rattle.cells.specs.Cells.{tree};
-ghost use Rattle.cells.specs.References.{Arena, Holds};
-ghost use Rattle.cells.specs.Moves.{Yields};
+ghost use Rattle.cells.specs.References.{Holds};
+ghost use Rattle.cells.specs.Moves.{Makes};
 ghost use Rattle.links.specs.Opened.{Whole};
 ghost use Rattle.links.specs.Sitting.{Linkable};
 
@@ -27,8 +27,7 @@ pub fn link<K: Kind>(
     requires linkable { Linkable (K.meaning kind.now) (tree cells.old left) item.element (tree cells.old right) }
     requires whole { Whole (K.meaning kind.now) item }
     requires some { link_cost (tree cells.old left) (tree cells.old right) ≤ pool.old.free }
-    ensures yields { (rs : List ℕ) → Arena (K.meaning kind.now) cells.old pool.old (left ∷ right ∷ rs)
-        → Yields (K.meaning kind.now) false cells.old pool.old rs cells.new pool.new result
+    ensures yields { Makes (K.meaning kind.now) false cells.old pool.old (left ∷ right ∷ []) cells.new pool.new result
         (link (tree cells.old left) item.element (tree cells.old right))
         (link_cost (tree cells.old left) (tree cells.old right)) }
     ensures order { elements (tree cells.new result) ≡ elements (tree cells.old left) ++ (item.element ∷ elements (tree cells.old right)) }

@@ -1,5 +1,5 @@
 // Taking cells apart. The cell stays: what it holds is copied, and its children are owned once more.
-ghost use Rattle.std.specs.Prelude.{◌≡◌, ℕ, ◌^◌, ◌<◌, List, [], ◌∷◌, length};
+ghost use Rattle.std.specs.Prelude.{◌^◌, ◌<◌, [], ◌∷◌, length};
 ghost use Rattle.cells.specs.declared.pool.Pool.{Pool};
 ghost use Rattle.cells.specs.References.{Holds};
 ghost use Rattle.links.specs.Opened.{Opens};
@@ -27,10 +27,7 @@ pub fn open<K: Kind>(
     retain(kind, cells, far);
     Parts {
         near,
-        item: Item {
-            element: c.element,
-            own: c.own,
-        },
+        item: Item::from(c),
         far,
     }
 }

@@ -1,10 +1,10 @@
 // Rebalancing: an item between two trees of which the left, as seen, may be too heavy for the right.
-ghost use Rattle.std.specs.Prelude.{◌≡◌, ℕ, ◌+◌, ◌*◌, ◌^◌, ◌<◌, ◌≤◌, List, [], ◌∷◌};
-ghost use Rattle.balance.specs.Trees.{node, weight};
+ghost use Rattle.std.specs.Prelude.{◌+◌, ◌^◌, ◌<◌, ◌≤◌, [], ◌∷◌};
+ghost use Rattle.balance.specs.Trees.{node};
 ghost use Rattle.balance.specs.Links.{rotated, rebalanced};
 ghost use Rattle.cells.specs.Cells.{seen};
-ghost use Rattle.cells.specs.References.{Arena, Holds};
-ghost use Rattle.cells.specs.Moves.{Yields};
+ghost use Rattle.cells.specs.References.{Holds};
+ghost use Rattle.cells.specs.Moves.{Makes};
 ghost use Rattle.links.specs.Opened.{Whole};
 ghost use Rattle.links.specs.Sitting.{Sits};
 
@@ -30,8 +30,7 @@ pub fn rotate<K: Kind>(
     requires sits { Sits (K.meaning kind.now) (rotated (node (seen flip cells.old parts.near) parts.item.element (seen flip cells.old parts.far)) item.element (seen flip cells.old right)) }
     requires whole { Whole (K.meaning kind.now) parts.item × Whole (K.meaning kind.now) item }
     requires some { 3 ≤ pool.old.free }
-    ensures { (rs : List ℕ) → Arena (K.meaning kind.now) cells.old pool.old (parts.near ∷ parts.far ∷ right ∷ rs)
-        → Yields (K.meaning kind.now) flip cells.old pool.old rs cells.new pool.new result
+    ensures { Makes (K.meaning kind.now) flip cells.old pool.old (parts.near ∷ parts.far ∷ right ∷ []) cells.new pool.new result
         (rotated (node (seen flip cells.old parts.near) parts.item.element (seen flip cells.old parts.far)) item.element (seen flip cells.old right)) 3 }
 {
     let inner = count_at(cells, parts.far) + 1;
@@ -56,8 +55,7 @@ pub fn rebalance<K: Kind>(
     requires sits { Sits (K.meaning kind.now) (rebalanced (seen flip cells.old left) item.element (seen flip cells.old right)) }
     requires whole { Whole (K.meaning kind.now) item }
     requires some { 3 ≤ pool.old.free }
-    ensures { (rs : List ℕ) → Arena (K.meaning kind.now) cells.old pool.old (left ∷ right ∷ rs)
-        → Yields (K.meaning kind.now) flip cells.old pool.old rs cells.new pool.new result
+    ensures { Makes (K.meaning kind.now) flip cells.old pool.old (left ∷ right ∷ []) cells.new pool.new result
         (rebalanced (seen flip cells.old left) item.element (seen flip cells.old right)) 3 }
 {
     let heavy = count_at(cells, left) + 1;

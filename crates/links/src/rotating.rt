@@ -1,11 +1,11 @@
 // Rotations: a cell's child, or its grandchild, comes to stand on top. Made cells only; the old ones stay for whoever
 // owns them.
-ghost use Rattle.std.specs.Prelude.{◌≡◌, ℕ, ◌+◌, ◌*◌, ◌^◌, ◌<◌, ◌≤◌, List, [], ◌∷◌};
+ghost use Rattle.std.specs.Prelude.{◌^◌, ◌<◌, ◌≤◌, [], ◌∷◌};
 ghost use Rattle.balance.specs.Trees.{node, weight};
 ghost use Rattle.balance.specs.Links.{rotated_twice};
 ghost use Rattle.cells.specs.Cells.{seen};
-ghost use Rattle.cells.specs.References.{Arena, Holds};
-ghost use Rattle.cells.specs.Moves.{Yields};
+ghost use Rattle.cells.specs.References.{Holds, Owned};
+ghost use Rattle.cells.specs.Moves.{Makes};
 ghost use Rattle.links.specs.Opened.{Whole};
 ghost use Rattle.links.specs.Sitting.{Sits};
 
@@ -25,12 +25,11 @@ pub fn rotate_once<K: Kind>(
     item: Item<K::Element, K::Summary>,
     right: u32,
 ) -> u32
-    requires owned { (rs : List ℕ) × Arena (K.meaning kind.now) cells.old pool.old (parts.near ∷ parts.far ∷ right ∷ rs) }
+    requires owned { Owned (K.meaning kind.now) cells.old pool.old (parts.near ∷ parts.far ∷ right ∷ []) }
     requires sits { Sits (K.meaning kind.now) (node (seen flip cells.old parts.near) parts.item.element (node (seen flip cells.old parts.far) item.element (seen flip cells.old right))) }
     requires whole { Whole (K.meaning kind.now) parts.item × Whole (K.meaning kind.now) item }
     requires some { 2 ≤ pool.old.free }
-    ensures { (rs : List ℕ) → Arena (K.meaning kind.now) cells.old pool.old (parts.near ∷ parts.far ∷ right ∷ rs)
-        → Yields (K.meaning kind.now) flip cells.old pool.old rs cells.new pool.new result
+    ensures { Makes (K.meaning kind.now) flip cells.old pool.old (parts.near ∷ parts.far ∷ right ∷ []) cells.new pool.new result
         (node (seen flip cells.old parts.near) parts.item.element (node (seen flip cells.old parts.far) item.element (seen flip cells.old right))) 2 }
 {
     let low = make_facing(kind, cells, pool, flip, parts.far, item, right);
@@ -53,8 +52,7 @@ pub fn rotate_twice<K: Kind>(
     requires sits { Sits (K.meaning kind.now) (rotated_twice (seen flip cells.old parts.near) parts.item.element (seen flip cells.old parts.far) item.element (seen flip cells.old right)) }
     requires whole { Whole (K.meaning kind.now) parts.item × Whole (K.meaning kind.now) item }
     requires some { 3 ≤ pool.old.free }
-    ensures { (rs : List ℕ) → Arena (K.meaning kind.now) cells.old pool.old (parts.near ∷ parts.far ∷ right ∷ rs)
-        → Yields (K.meaning kind.now) flip cells.old pool.old rs cells.new pool.new result
+    ensures { Makes (K.meaning kind.now) flip cells.old pool.old (parts.near ∷ parts.far ∷ right ∷ []) cells.new pool.new result
         (rotated_twice (seen flip cells.old parts.near) parts.item.element (seen flip cells.old parts.far) item.element (seen flip cells.old right)) 3 }
 {
     let inner = open(kind, cells, flip, parts.far);

@@ -1,39 +1,36 @@
-// Down the near side of a tree, to where a lighter one can stand. Nothing is written but the table.
-ghost use Rattle.std.specs.Prelude.{◌≡◌, ◌≤◌, length};
+// Down the near side of a tree, to where a lighter one can stand. Nothing is written but the path.
+ghost use Rattle.std.specs.Prelude.{◌≡◌, ◌≤◌, [], length};
 ghost use Rattle.balance.specs.Links.{spine};
 ghost use Rattle.balance.specs.Levels.{most, deepest};
 ghost use Rattle.cells.specs.Cells.{cell_count, seen, Live, Sound};
 ghost use Rattle.links.specs.Climbing.{Sunk};
 
 use crate::facing::near_of;
-use crate::foot::Foot;
 use balance::outweighs;
-use cells::{Cell, cell_at, count_at};
+use cells::{Cell, Path, cell_at, count_at};
 use kinds::Kind;
 
-// From the tree of `right` down while it outweighs that of `left`. The table takes the numbers of the cells passed.
+// From the tree of `right` down while it outweighs that of `left`, to the cell that does not. The path takes what is passed.
 pub fn sink<K: Kind>(
     kind: &K,
     cells: &[Cell<K::Element, K::Summary>],
     flip: bool,
     left: u32,
     right: u32,
-    table: &mut [u32; 64],
-) -> Foot
+    path: &mut Path,
+) -> u32
+    requires empty { path.old.items ≡ [] }
     requires sound { Sound (K.meaning kind.now) cells.now }
     requires live { Live cells.now left × Live cells.now right }
     requires few { (cell_count cells.now left ≤ most) × (cell_count cells.now right ≤ most) }
     requires deep { length (spine (seen flip cells.now left) (seen flip cells.now right)) ≤ deepest }
-    ensures { Sunk (K.meaning kind.now) flip cells.now (seen flip cells.now left) right table.new result }
+    ensures { Sunk (K.meaning kind.now) flip cells.now (seen flip cells.now left) right path.new.items result }
 {
     let light = count_at(cells, left) + 1;
     let mut x = right;
-    let mut top = 0usize;
     while outweighs(count_at(cells, x) + 1, light) {
-        table[top] = x;
-        top += 1;
-        let c = cell_at(cells, x);
-        x = near_of(flip, c);
+        path.push(x);
+        x = near_of(flip, cell_at(cells, x));
     }
-    Foot { cell: x, top }
+    x
 }

@@ -1,5 +1,5 @@
 -- The two sides of a place.
-use Rattle.std.proofs.Common.{◌≡◌, ℕ, ◌+◌, ◌-◌, ◌^◌, ◌≤◌, Bool, true, false, List, [], ◌∷◌, ◌++◌, take, sym, ap, ◌∙◌, subst, arith}
+use Rattle.std.proofs.Common.{◌≡◌, ℕ, ◌+◌, ◌^◌, ◌≤◌, Bool, true, false, List, [], ◌∷◌, ◌++◌, sym, ap, ◌∙◌, subst, arith}
 use Rattle.faults.specs.Limits.{limit}
 use Rattle.kinds.specs.Kinds.{Meaning}
 use Rattle.balance.specs.Trees.{Tree, count, mirror}
@@ -12,10 +12,8 @@ use Rattle.balance.proofs.Mirrors.{mirror_count, mirror_span}
 use Rattle.cells.specs.declared.cell.Cell.{Cell}
 use Rattle.cells.specs.declared.pool.Pool.{Pool}
 use Rattle.cells.specs.Cells.{shape, tree, seen}
-use Rattle.cells.specs.Reach.{Among, AllStay, Reached}
-use Rattle.cells.specs.References.{Arena}
 use Rattle.cells.specs.Moves.{Moved, Moves, Retains}
-use Rattle.cells.proofs.Staying.{stays_trans}
+use Rattle.cells.proofs.Staying.{occurs_append}
 use Rattle.cells.proofs.Moving.{moves_then, seen_stays}
 use Rattle.walks.specs.Walks.{Table}
 use Rattle.splits.specs.Owning.{Owns}
@@ -24,106 +22,104 @@ use Rattle.splits.specs.Regrowing.{Climbable, Growable, Regrown}
 use Rattle.splits.specs.Sides.{Behind, Before}
 use Rattle.splits.proofs.Tables.{reached_stays, stays_reached, live_reached, table_stays}
 
--- what a table stands for, and that it can be climbed, stays while the roots that reach its cells do
-module _ {E A S : Type 0} (k : Meaning E A S) (flip : Bool) (a b : List (Cell E S)) (q : Pool) (rest xs : List ℕ) (stay : AllStay a b rest) (arena : Arena k b q (xs ++ rest))
-    (sub : (i : ℕ) → Among rest i → Among (xs ++ rest) i) where
-  pub table_on : (is : List ℕ) → ((i : ℕ) → Among is i → Reached a rest i) → (ss : List (E × Tree E)) → Table flip a is ss → Table flip b is ss
-  table_on is reached ss passed =
+-- what passed cells stand for, and that they can be climbed, stays while the roots that reach them do
+module _ {E A S : Type 0} {k : Meaning E A S} {a b : List (Cell E S)} {p q : Pool} {rest xs : List ℕ} {n : ℕ} (moved : Moved k a p rest b q xs n)
+    {flip : Bool} {t : Tree E} {is : List ℕ} {free : ℕ} (climbs : Climbable k flip a rest t is free) where
+  pub table_on : (ss : List (E × Tree E)) → Table flip a is ss → Table flip b is ss
+  table_on ss passed =
       table_stays flip a b is ss passed
-      (λ i among. stays_reached a b rest stay i (reached i among))
-      (λ i among. live_reached k b q (xs ++ rest) rest arena sub i (reached_stays a b rest stay i (reached i among)))
+      (λ i among. stays_reached a b rest moved.stay i (climbs.reached i among))
+      (λ i among. live_reached k b q (xs ++ rest) rest moved.arena (λ j h. omega (arith, occurs_append xs rest j)) i (reached_stays a b rest moved.stay i (climbs.reached i among)))
 
-  pub climbs_on : (t u : Tree E) (table : List ℕ) (top free left : ℕ) → t ≡ u → free ≤ left → Climbable k flip a rest t table top free → Climbable k flip b rest u table top left
-  climbs_on t u table top free left same more climbs = record {
-    size = climbs.size;
-    fits = climbs.fits;
+  pub climbs_on : (u : Tree E) → t ≡ u → (left : ℕ) → free ≤ left → Climbable k flip b rest u is left
+  climbs_on u same left more = record {
     steps = climbs.steps;
-    passed = table_on (take top table) climbs.reached climbs.steps climbs.passed;
-    reached = λ i among. reached_stays a b rest stay i (climbs.reached i among);
+    passed = table_on climbs.steps climbs.passed;
+    reached = λ i among. reached_stays a b rest moved.stay i (climbs.reached i among);
     few = omega (arith, climbs.few, ap count same);
     short = omega (arith, climbs.short, ap (span (shape k)) same);
     some = omega (arith, climbs.some, ap (rebuilt_cost climbs.steps) same);
   }
 
-module _ {E A S : Type 0} (k : Meaning E A S) (a : List (Cell E S)) (p : Pool) (right : ℕ) (lefts : List ℕ) (top : ℕ) (h : Behind k a p right lefts top)
-    (b : List (Cell E S)) (one : Retains k a right b) where
-  kept : Moved k a p h.rest b p (right ∷ []) 0
-  kept = one.each p h.rest h.arena
+module _ {E A S : Type 0} {k : Meaning E A S} {a : List (Cell E S)} {p : Pool} {c : Cell E S} {d : ℕ} {is : List ℕ} (h : Behind k a p c d is) where
+  module _ {b : List (Cell E S)} (one : Retains k a c.right b) where
+    kept : Moved k a p h.rest b p (c.right ∷ []) 0
+    kept = one.each p h.rest h.arena
 
-  same : tree b right ≡ tree a right
-  same = seen_stays false a b right (one.here p h.rest h.arena)
+    same : tree b c.right ≡ tree a c.right
+    same = seen_stays false a b c.right (one.here p h.rest h.arena)
 
-  pub behind_grows : Growable k false b p right lefts top
-  behind_grows = record {
-    rest = h.rest;
-    arena = kept.arena;
-    room = omega (arith, h.room);
-    climbs = climbs_on k false a b p h.rest (right ∷ []) kept.stay kept.arena (λ i among. omega arith) (tree a right) (tree b right) lefts top p.free p.free (sym same) (omega arith) h.climbs;
-  }
-
-  pub behind_regrown : (c : List (Cell E S)) (q : Pool) (r : ℕ) → Regrown k false b p (right ∷ []) (tree b right) 0 (take top lefts) c q r → Regrown k false a p [] (tree a right) 0 (take top lefts) c q r
-  behind_regrown c q r regrown ss passed =
-      let grows = regrown ss (table_on k false a b p h.rest (right ∷ []) kept.stay kept.arena (λ i among. omega arith) (take top lefts) h.climbs.reached ss passed) in
-      let cost : 0 + (0 + rebuilt_cost ss (tree b right)) ≡ 0 + rebuilt_cost ss (tree a right) = omega (arith, ap (rebuilt_cost ss) same) in
-      record {
-        each = subst (Moves k a p [] c q (r ∷ [])) cost
-            (moves_then k a p [] b p (right ∷ []) 0 (one.each p) (right ∷ []) [] (λ i. omega arith) c q (r ∷ []) (0 + rebuilt_cost ss (tree b right)) grows.each (r ∷ []) (λ i. omega arith));
-        tree_is = grows.tree_is ∙ ap (rebuilt link ss) same;
-      }
-
-module _ {E A S : Type 0} (k : Meaning E A S) (a : List (Cell E S)) (p : Pool) (left : ℕ) (e : E) (d : ℕ) (rights : List ℕ) (top : ℕ) (h : Before k a p left e d rights top)
-    (b : List (Cell E S)) (one : Retains k a left b) where
-  abbrev U : Tree E
-  U = up_to (shape k) (tree a left) e d
-
-  abbrev cost : ℕ
-  cost = up_to_cost (tree a left) d
-
-  kept_l : Moved k a p h.rest b p (left ∷ []) 0
-  kept_l = one.each p h.rest h.arena
-
-  same_l : tree b left ≡ tree a left
-  same_l = seen_stays false a b left (one.here p h.rest h.arena)
-
-  pub before_owns : Owns k b p (left ∷ []) [] (2 ^ 22)
-  before_owns = record { rest = h.rest; arena = kept_l.arena; kept = λ i among. omega arith; few = omega (arith, h.room) }
-
-  pub before_few : count (up_to (shape k) (tree b left) e d) ≤ most
-  before_few = omega (arith, h.climbs.few, mirror_count U, ap (λ t. count (up_to (shape k) t e d)) same_l)
-
-  pub before_short : span (shape k) (up_to (shape k) (tree b left) e d) ≤ limit
-  before_short = omega (arith, h.climbs.short, mirror_span (shape k) U, ap (λ t. span (shape k) (up_to (shape k) t e d)) same_l)
-
-  pub before_some : up_to_cost (tree b left) d ≤ p.free
-  before_some = omega (arith, h.some, ap (λ t. up_to_cost t d) same_l)
-
-  module _ (c : List (Cell E S)) (q : Pool) (low : ℕ) (two : Grows k false b p (left ∷ []) c q low (up_to (shape k) (tree b left) e d) (up_to_cost (tree b left) d)) where
-    moved : Moved k b p h.rest c q (low ∷ []) (up_to_cost (tree b left) d)
-    moved = two.each h.rest kept_l.arena
-
-    stays : AllStay a c h.rest
-    stays i among = stays_trans a b c i (kept_l.stay i among) (moved.stay i among)
-
-    low_is : seen true c low ≡ mirror U
-    low_is = ap mirror two.tree_is ∙ ap (λ t. mirror (up_to (shape k) t e d)) same_l
-
-    pub before_grows : Growable k true c q low rights top
-    before_grows = record {
+    pub behind_grows : Growable k false b p c.right is
+    behind_grows = record {
       rest = h.rest;
-      arena = moved.arena;
+      arena = kept.arena;
       room = omega (arith, h.room);
-      climbs = climbs_on k true a c q h.rest (low ∷ []) stays moved.arena (λ i among. omega arith) (mirror U) (seen true c low) rights top (p.free - cost) q.free (sym low_is)
-          (omega (arith, moved.free, ap (λ t. up_to_cost t d) same_l)) h.climbs;
+      climbs = climbs_on kept h.climbs (tree b c.right) (sym same) p.free (omega arith);
     }
 
-    pub before_regrown : (x : List (Cell E S)) (o : Pool) (r : ℕ) → Regrown k true c q (low ∷ []) (seen true c low) 0 (take top rights) x o r → Regrown k true a p [] (mirror U) cost (take top rights) x o r
-    before_regrown x o r regrown ss passed =
-        let grows = regrown ss (table_on k true a c q h.rest (low ∷ []) stays moved.arena (λ i among. omega arith) (take top rights) h.climbs.reached ss passed) in
-        let all : 0 + up_to_cost (tree b left) d + (0 + rebuilt_cost ss (seen true c low)) ≡ cost + rebuilt_cost ss (mirror U) = omega (arith, ap (rebuilt_cost ss) low_is, ap (λ t. up_to_cost t d) same_l) in
-        let first : Moves k a p [] c q (low ∷ []) (0 + up_to_cost (tree b left) d) =
-        moves_then k a p [] b p (left ∷ []) 0 (one.each p) (left ∷ []) [] (λ i. omega arith) c q (low ∷ []) (up_to_cost (tree b left) d) two.each (low ∷ []) (λ i. omega arith) in
+    pub behind_regrown : (z : List (Cell E S)) (o : Pool) (r : ℕ) → Regrown k false b p (c.right ∷ []) (tree b c.right) 0 is z o r → Regrown k false a p [] (tree a c.right) 0 is z o r
+    behind_regrown z o r regrown ss passed =
+        let grows = regrown ss (table_on kept h.climbs ss passed) in
+        let cost : 0 + (0 + rebuilt_cost ss (tree b c.right)) ≡ 0 + rebuilt_cost ss (tree a c.right) = omega (arith, ap (rebuilt_cost ss) same) in
         record {
-          each = subst (Moves k a p [] x o (r ∷ [])) all
-              (moves_then k a p [] c q (low ∷ []) (0 + up_to_cost (tree b left) d) first (low ∷ []) [] (λ i. omega arith) x o (r ∷ []) (0 + rebuilt_cost ss (seen true c low)) grows.each (r ∷ []) (λ i. omega arith));
-          tree_is = grows.tree_is ∙ ap (rebuilt link ss) low_is;
+          each = subst (Moves k a p [] z o (r ∷ [])) cost
+              (moves_then k a p [] b p (c.right ∷ []) 0 (one.each p) (c.right ∷ []) [] (λ i. omega arith) z o (r ∷ []) (0 + rebuilt_cost ss (tree b c.right)) grows.each (r ∷ []) (λ i. omega arith));
+          tree_is = grows.tree_is ∙ ap (rebuilt link ss) same;
         }
+
+module _ {E A S : Type 0} {k : Meaning E A S} {a : List (Cell E S)} {p : Pool} {f : Cell E S} {d : ℕ} {is : List ℕ} (h : Before k a p f d is) where
+  abbrev U : Tree E
+  U = up_to (shape k) (tree a f.left) f.element d
+
+  abbrev cost : ℕ
+  cost = up_to_cost (tree a f.left) d
+
+  module _ {b : List (Cell E S)} (one : Retains k a f.left b) where
+    kept_l : Moved k a p h.rest b p (f.left ∷ []) 0
+    kept_l = one.each p h.rest h.arena
+
+    same_l : tree b f.left ≡ tree a f.left
+    same_l = seen_stays false a b f.left (one.here p h.rest h.arena)
+
+    pub before_owns : Owns k b p (f.left ∷ []) [] (2 ^ 22)
+    before_owns = record { rest = h.rest; arena = kept_l.arena; kept = λ i among. omega arith; few = omega (arith, h.room) }
+
+    pub before_few : count (up_to (shape k) (tree b f.left) f.element d) ≤ most
+    before_few = omega (arith, h.climbs.few, mirror_count U, ap (λ t. count (up_to (shape k) t f.element d)) same_l)
+
+    pub before_short : span (shape k) (up_to (shape k) (tree b f.left) f.element d) ≤ limit
+    before_short = omega (arith, h.climbs.short, mirror_span (shape k) U, ap (λ t. span (shape k) (up_to (shape k) t f.element d)) same_l)
+
+    pub before_some : up_to_cost (tree b f.left) d ≤ p.free
+    before_some = omega (arith, h.some, ap (λ t. up_to_cost t d) same_l)
+
+    module _ {c : List (Cell E S)} {q : Pool} {low : ℕ} (two : Grows k false b p (f.left ∷ []) c q low (up_to (shape k) (tree b f.left) f.element d) (up_to_cost (tree b f.left) d)) where
+      moved : Moved k b p h.rest c q (low ∷ []) (up_to_cost (tree b f.left) d)
+      moved = two.each h.rest kept_l.arena
+
+      first : Moves k a p [] c q (low ∷ []) (0 + up_to_cost (tree b f.left) d)
+      first = moves_then k a p [] b p (f.left ∷ []) 0 (one.each p) (f.left ∷ []) [] (λ i. omega arith) c q (low ∷ []) (up_to_cost (tree b f.left) d) two.each (low ∷ []) (λ i. omega arith)
+
+      all : Moved k a p h.rest c q (low ∷ []) (0 + up_to_cost (tree b f.left) d)
+      all = first h.rest h.arena
+
+      low_is : seen true c low ≡ mirror U
+      low_is = ap mirror two.tree_is ∙ ap (λ t. mirror (up_to (shape k) t f.element d)) same_l
+
+      pub before_grows : Growable k true c q low is
+      before_grows = record {
+        rest = h.rest;
+        arena = moved.arena;
+        room = omega (arith, h.room);
+        climbs = climbs_on all h.climbs (seen true c low) (sym low_is) q.free (omega (arith, moved.free, ap (λ t. up_to_cost t d) same_l));
+      }
+
+      pub before_regrown : (z : List (Cell E S)) (o : Pool) (r : ℕ) → Regrown k true c q (low ∷ []) (seen true c low) 0 is z o r → Regrown k true a p [] (mirror U) cost is z o r
+      before_regrown z o r regrown ss passed =
+          let grows = regrown ss (table_on all h.climbs ss passed) in
+          let sum : 0 + up_to_cost (tree b f.left) d + (0 + rebuilt_cost ss (seen true c low)) ≡ cost + rebuilt_cost ss (mirror U) = omega (arith, ap (rebuilt_cost ss) low_is, ap (λ t. up_to_cost t d) same_l) in
+          record {
+            each = subst (Moves k a p [] z o (r ∷ [])) sum
+                (moves_then k a p [] c q (low ∷ []) (0 + up_to_cost (tree b f.left) d) first (low ∷ []) [] (λ i. omega arith) z o (r ∷ []) (0 + rebuilt_cost ss (seen true c low)) grows.each (r ∷ []) (λ i. omega arith));
+            tree_is = grows.tree_is ∙ ap (rebuilt link ss) low_is;
+          }

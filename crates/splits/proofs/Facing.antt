@@ -16,39 +16,34 @@ use Rattle.links.specs.Sitting.{Linkable}
 use Rattle.links.proofs.Sides.{arena_turned}
 use Rattle.splits.specs.Splitting.{Grows}
 
-module _ {E A S : Type 0} (k : Meaning E A S) (flip : Bool) (a : List (Cell E S)) (p : Pool) (left right : ℕ) (e : E) (holds : Holds k a p (left ∷ right ∷ []) (2 ^ 24)) where
-  pub holds_turned : Holds k a p (right ∷ left ∷ []) (2 ^ 24)
-  holds_turned = record { rest = holds.rest; arena = arena_turned k a p left right holds.rest holds.arena; few = holds.few }
+module _ {E A S : Type 0} {k : Meaning E A S} {a : List (Cell E S)} {p : Pool} {left right : ℕ} (holds : Holds k a p (left ∷ right ∷ []) (2 ^ 24)) where
+  module _ {flip : Bool} (is : flip ≡ true) where
+    pub linkable_turned : {e : E} → Linkable k (seen flip a left) e (seen flip a right) → Linkable k (tree a right) e (tree a left)
+    linkable_turned {e} linkable =
+        let l : Linkable k (mirror (tree a left)) e (mirror (tree a right)) = subst (λ f. Linkable k (seen f a left) e (seen f a right)) is linkable in
+        record {
+          few = omega (arith, l.few, mirror_count (tree a left), mirror_count (tree a right));
+          short = omega (arith, l.short, mirror_span (shape k) (tree a left), mirror_span (shape k) (tree a right));
+        }
 
-  pub linkable_turned : flip ≡ true → Linkable k (seen flip a left) e (seen flip a right) → Linkable k (tree a right) e (tree a left)
-  linkable_turned is linkable =
-      let l : Linkable k (mirror (tree a left)) e (mirror (tree a right)) = subst (λ f. Linkable k (seen f a left) e (seen f a right)) is linkable in
-      record {
-        few = omega (arith, l.few, mirror_count (tree a left), mirror_count (tree a right));
-        short = omega (arith, l.short, mirror_span (shape k) (tree a left), mirror_span (shape k) (tree a right));
-      }
+    pub cost_turned : link_cost (seen flip a left) (seen flip a right) ≡ link_cost (tree a right) (tree a left)
+    cost_turned = ap (λ f. link_cost (seen f a left) (seen f a right)) is ∙ link_cost_mirror (tree a right) (tree a left)
 
-  pub linkable_plain : flip ≡ false → Linkable k (seen flip a left) e (seen flip a right) → Linkable k (tree a left) e (tree a right)
-  linkable_plain is linkable = subst (λ f. Linkable k (seen f a left) e (seen f a right)) is linkable
-
-  pub cost_turned : flip ≡ true → link_cost (seen flip a left) (seen flip a right) ≡ link_cost (tree a right) (tree a left)
-  cost_turned is = ap (λ f. link_cost (seen f a left) (seen f a right)) is ∙ link_cost_mirror (tree a right) (tree a left)
-
-  pub cost_plain : flip ≡ false → link_cost (seen flip a left) (seen flip a right) ≡ link_cost (tree a left) (tree a right)
-  cost_plain is = ap (λ f. link_cost (seen f a left) (seen f a right)) is
-
-  module _ (b : List (Cell E S)) (q : Pool) (r : ℕ) where
-    pub grows_turned : flip ≡ true → ((rs : List ℕ) → Arena k a p (right ∷ left ∷ rs) → Yields k false a p rs b q r (link (tree a right) e (tree a left)) (link_cost (tree a right) (tree a left)))
+    pub grows_turned : (e : E) (b : List (Cell E S)) (q : Pool) (r : ℕ) → ((rs : List ℕ) → Arena k a p (right ∷ left ∷ rs) → Yields k false a p rs b q r (link (tree a right) e (tree a left)) (link_cost (tree a right) (tree a left)))
         → Grows k flip a p (left ∷ right ∷ []) b q r (link (seen flip a left) e (seen flip a right)) (link_cost (seen flip a left) (seen flip a right))
-    grows_turned is yields = record {
-      each = λ rs arena. subst (Moved k a p rs b q (r ∷ [])) (sym (cost_turned is)) (yields rs (arena_turned k a p left right rs arena)).moved;
+    grows_turned e b q r yields = record {
+      each = λ rs arena. subst (Moved k a p rs b q (r ∷ [])) (sym cost_turned) (yields rs (arena_turned k a p left right rs arena)).moved;
       tree_is = ap (λ f. seen f b r) is ∙ ap mirror (yields holds.rest (arena_turned k a p left right holds.rest holds.arena)).tree_is ∙ mirror_link (tree a right) e (tree a left)
           ∙ ap (λ f. link (seen f a left) e (seen f a right)) (sym is);
     }
 
-    pub grows_plain : flip ≡ false → ((rs : List ℕ) → Arena k a p (left ∷ right ∷ rs) → Yields k false a p rs b q r (link (tree a left) e (tree a right)) (link_cost (tree a left) (tree a right)))
+  module _ {flip : Bool} (is : flip ≡ false) where
+    cost_plain : link_cost (seen flip a left) (seen flip a right) ≡ link_cost (tree a left) (tree a right)
+    cost_plain = ap (λ f. link_cost (seen f a left) (seen f a right)) is
+
+    pub grows_plain : (e : E) (b : List (Cell E S)) (q : Pool) (r : ℕ) → ((rs : List ℕ) → Arena k a p (left ∷ right ∷ rs) → Yields k false a p rs b q r (link (tree a left) e (tree a right)) (link_cost (tree a left) (tree a right)))
         → Grows k flip a p (left ∷ right ∷ []) b q r (link (seen flip a left) e (seen flip a right)) (link_cost (seen flip a left) (seen flip a right))
-    grows_plain is yields = record {
-      each = λ rs arena. subst (Moved k a p rs b q (r ∷ [])) (sym (cost_plain is)) (yields rs arena).moved;
+    grows_plain e b q r yields = record {
+      each = λ rs arena. subst (Moved k a p rs b q (r ∷ [])) (sym cost_plain) (yields rs arena).moved;
       tree_is = ap (λ f. seen f b r) is ∙ (yields holds.rest holds.arena).tree_is ∙ ap (λ f. link (seen f a left) e (seen f a right)) (sym is);
     }

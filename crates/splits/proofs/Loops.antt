@@ -1,5 +1,5 @@
--- The loop up a table.
-use Rattle.std.proofs.Common.{◌≡◌, ℕ, zero, suc, ◌+◌, ◌<◌, ◌≤◌, Bool, List, [], ◌∷◌, ◌++◌, length, get_or, take, sym, refl, ap, ◌∙◌, subst, arith}
+-- The loop up the passed cells.
+use Rattle.std.proofs.Common.{◌≡◌, ℕ, ◌+◌, ◌≤◌, Bool, List, [], ◌∷◌, ◌++◌, length, sym, refl, ap, ◌∙◌, subst, arith}
 use Rattle.faults.specs.Limits.{limit}
 use Rattle.kinds.specs.Kinds.{Meaning}
 use Rattle.balance.specs.Trees.{Tree, count}
@@ -33,56 +33,40 @@ passed_span_last : {E A S : Type 0} (k : Meaning E A S) (ss : List (E × Tree E)
 passed_span_last k [] s = omega arith
 passed_span_last k (t ∷ ss) s = omega (arith, passed_span_last k ss s)
 
-take_last : (table : List ℕ) (n : ℕ) → n < length table → take (suc n) table ≡ take n table ++ (get_or table n 0 ∷ [])
-take_last [] n h = absurd (omega arith)
-take_last (x ∷ xs) zero h = refl
-take_last (x ∷ xs) (suc n) h = ap (λ l. x ∷ l) (take_last xs n (omega arith))
+module _ {E A S : Type 0} {k : Meaning E A S} {flip : Bool} {a : List (Cell E S)} {p : Pool} {low : ℕ} {is : List ℕ} (g : Growable k flip a p low is) where
+  -- from the root low on, in the cells a, to the root x, in the cells b, with the cells left to go
+  pub record Regrowing (b : List (Cell E S)) (q : Pool) (x : ℕ) (left : List ℕ) : Type 0 where
+    pub spent : ℕ
+    pub each : Moves k a p (low ∷ []) b q (x ∷ []) spent
+    pub stay : AllStay a b g.rest
+    pub steps : List (E × Tree E)
+    pub passed : Table flip b left steps
+    pub reached : (i : ℕ) → Among left i → Reached b g.rest i
+    pub same : rebuilt link steps (seen flip b x) ≡ rebuilt link g.climbs.steps (seen flip a low)
+    pub cost : spent + rebuilt_cost steps (seen flip b x) ≡ rebuilt_cost g.climbs.steps (seen flip a low)
+    pub few : count (seen flip b x) + passed_count steps ≤ most
+    pub short : span (shape k) (seen flip b x) + passed_span (shape k) steps ≤ limit
 
--- from the root low on, in the cells a, to the root x, in the cells b, with n cells of the table to go
-pub record Regrowing {E A S : Type 0} (k : Meaning E A S) (flip : Bool) (a : List (Cell E S)) (p : Pool) (low : ℕ) (table : List ℕ) (rest : List ℕ) (all : List (E × Tree E)) (b : List (Cell E S)) (q : Pool) (x n : ℕ) : Type 0 where
-  pub fits : n ≤ 64
-  pub spent : ℕ
-  pub each : Moves k a p (low ∷ []) b q (x ∷ []) spent
-  pub stay : AllStay a b rest
-  pub steps : List (E × Tree E)
-  pub passed : Table flip b (take n table) steps
-  pub reached : (i : ℕ) → Among (take n table) i → Reached b rest i
-  pub same : rebuilt link steps (seen flip b x) ≡ rebuilt link all (seen flip a low)
-  pub cost : spent + rebuilt_cost steps (seen flip b x) ≡ rebuilt_cost all (seen flip a low)
-  pub few : count (seen flip b x) + passed_count steps ≤ most
-  pub short : span (shape k) (seen flip b x) + passed_span (shape k) steps ≤ limit
-
-module _ {E A S : Type 0} (k : Meaning E A S) (flip : Bool) (a : List (Cell E S)) (p : Pool) (low : ℕ) (table : List ℕ) (top : ℕ) (g : Growable k flip a p low table top) where
-  pub regrowing_start : Regrowing k flip a p low table g.rest g.climbs.steps a p low top
-  regrowing_start = record {
-    fits = g.climbs.fits;
+  pub regrowing_start : (left : List ℕ) → left ≡ is → Regrowing a p low left
+  regrowing_start left all = record {
     spent = 0;
     each = moves_none k a p (low ∷ []);
     stay = λ r among. stays_refl a r;
     steps = g.climbs.steps;
-    passed = g.climbs.passed;
-    reached = g.climbs.reached;
+    passed = subst (λ l. Table flip a l g.climbs.steps) (sym all) g.climbs.passed;
+    reached = λ i among. g.climbs.reached i (subst (λ l. Among l i) all among);
     same = refl;
     cost = omega arith;
     few = g.climbs.few;
     short = g.climbs.short;
   }
 
-  module _ (b : List (Cell E S)) (q : Pool) (x n m : ℕ) (e : n ≡ suc m) (inv : Regrowing k flip a p low table g.rest g.climbs.steps b q x n) where
-    abbrev i : ℕ
-    i = get_or table m 0
+  module _ {b : List (Cell E S)} {q : Pool} {x : ℕ} {all : List ℕ} (inv : Regrowing b q x all) (left : List ℕ) (i : ℕ) (all_is : all ≡ left ++ (i ∷ [])) where
+    last : Last flip b left i inv.steps
+    last = table_split flip b left i inv.steps (subst (λ l. Table flip b l inv.steps) all_is inv.passed)
 
-    pub row : m < 64
-    row = omega (arith, inv.fits)
-
-    table_is : take n table ≡ take m table ++ (i ∷ [])
-    table_is = ap (λ (n : ℕ). take n table) e ∙ take_last table m (omega (arith, g.climbs.size, inv.fits))
-
-    last : Last flip b (take m table) i inv.steps
-    last = table_split flip b (take m table) i inv.steps (subst (λ l. Table flip b l inv.steps) table_is inv.passed)
-
-    reached_in : (z : ℕ) → Among (take m table ++ (i ∷ [])) z → Reached b g.rest z
-    reached_in z among = inv.reached z (subst (λ l. Among l z) (sym table_is) among)
+    reached_in : (z : ℕ) → Among (left ++ (i ∷ [])) z → Reached b g.rest z
+    reached_in z among = inv.reached z (subst (λ l. Among l z) (sym all_is) among)
 
     held : Arena k b q (x ∷ g.rest)
     held = (inv.each g.rest g.arena).arena
@@ -106,7 +90,7 @@ module _ {E A S : Type 0} (k : Meaning E A S) (flip : Bool) (a : List (Cell E S)
     joinable = record {
       rest = g.rest;
       arena = held;
-      reached = reached_in i (let h = hit_same i in omega (arith, occurs_append (take m table) (i ∷ []) i));
+      reached = reached_in i (let h = hit_same i in omega (arith, occurs_append left (i ∷ []) i));
       room = g.room;
       step = last.last;
       passed = last.passed_last;
@@ -114,7 +98,7 @@ module _ {E A S : Type 0} (k : Meaning E A S) (flip : Bool) (a : List (Cell E S)
       some = omega (arith, g.climbs.some, inv.cost, cost_last, (inv.each g.rest g.arena).free);
     }
 
-    module _ (c : List (Cell E S)) (o : Pool) (r : ℕ) (grown : Grown k flip b q x i c o r) where
+    module _ {c : List (Cell E S)} {o : Pool} {r : ℕ} (grown : Grown k flip b q x i c o r) where
       one : Grows k flip b q (x ∷ []) c o r grown_tree (link_cost (seen flip b x) last.last.1)
       one = grown last.last last.passed_last
 
@@ -124,17 +108,16 @@ module _ {E A S : Type 0} (k : Meaning E A S) (flip : Bool) (a : List (Cell E S)
       held_on : Arena k c o (r ∷ g.rest)
       held_on = (one.each g.rest held).arena
 
-      reached_on : (z : ℕ) → Among (take m table) z → Reached b g.rest z
-      reached_on z among = reached_in z (omega (arith, occurs_append (take m table) (i ∷ []) z))
+      reached_on : (z : ℕ) → Among left z → Reached b g.rest z
+      reached_on z among = reached_in z (omega (arith, occurs_append left (i ∷ []) z))
 
-      pub regrowing_more : Regrowing k flip a p low table g.rest g.climbs.steps c o r m
+      pub regrowing_more : Regrowing c o r left
       regrowing_more = record {
-        fits = omega (arith, inv.fits);
         spent = inv.spent + link_cost (seen flip b x) last.last.1;
         each = moves_then k a p (low ∷ []) b q (x ∷ []) inv.spent inv.each (x ∷ []) [] (λ z. omega arith) c o (r ∷ []) (link_cost (seen flip b x) last.last.1) one.each (r ∷ []) (λ z. omega arith);
         stay = λ z among. stays_trans a b c z (inv.stay z among) (stays_on z among);
         steps = last.before;
-        passed = table_stays flip b c (take m table) last.before last.passed_before
+        passed = table_stays flip b c left last.before last.passed_before
             (λ z among. stays_reached b c g.rest stays_on z (reached_on z among))
             (λ z among. live_reached k c o (r ∷ g.rest) g.rest held_on (λ y h. omega arith) z (reached_stays b c g.rest stays_on z (reached_on z among)));
         reached = λ z among. reached_stays b c g.rest stays_on z (reached_on z among);
@@ -144,17 +127,17 @@ module _ {E A S : Type 0} (k : Meaning E A S) (flip : Bool) (a : List (Cell E S)
         short = omega (arith, short_last, ap (span (shape k)) one.tree_is, link_span (shape k) (seen flip b x) last.last.0 last.last.1);
       }
 
-  -- nothing of the table is left
-  none_left : (flip : Bool) (b : List (Cell E S)) (ss : List (E × Tree E)) → Table flip b [] ss → ss ≡ []
-  none_left flip b [] t = refl
-  none_left flip b (s ∷ ss) t = absurd t
+  -- no cell is left
+  none_left : (b : List (Cell E S)) (left : List ℕ) (ss : List (E × Tree E)) → length left ≡ 0 → Table flip b left ss → ss ≡ []
+  none_left b [] [] none t = refl
+  none_left b [] (s ∷ ss) none t = absurd t
+  none_left b (i ∷ left) ss none t = absurd (omega arith)
 
-  pub regrowing_end : (b : List (Cell E S)) (q : Pool) (x n : ℕ) → n ≤ 0 → Regrowing k flip a p low table g.rest g.climbs.steps b q x n → Regrown k flip a p (low ∷ []) (seen flip a low) 0 (take top table) b q x
+  pub regrowing_end : {b : List (Cell E S)} {q : Pool} {x : ℕ} {left : List ℕ} → Regrowing b q x left → length left ≡ 0 → Regrown k flip a p (low ∷ []) (seen flip a low) 0 is b q x
   unfolding rebuilt rebuilt_cost
-  regrowing_end b q x n none inv ss passed =
-      let z : n ≡ 0 = omega arith in
-      let steps_none = none_left flip b inv.steps (subst (λ (n : ℕ). Table flip b (take n table) inv.steps) z inv.passed) in
-      let all : ss ≡ g.climbs.steps = table_one flip a (take top table) ss g.climbs.steps passed g.climbs.passed in
+  regrowing_end {b} {q} {x} {left} inv none ss passed =
+      let steps_none = none_left b left inv.steps none inv.passed in
+      let all : ss ≡ g.climbs.steps = table_one flip a is ss g.climbs.steps passed g.climbs.passed in
       let cost : inv.spent ≡ 0 + rebuilt_cost ss (seen flip a low) =
       omega (arith, inv.cost, ap (λ ss. rebuilt_cost ss (seen flip b x)) steps_none, ap (λ ss. rebuilt_cost ss (seen flip a low)) all) in
       record {

@@ -41,9 +41,7 @@ merge_cost_is : {E : Type 0} (s : Shape E) (l r : Tree E) → merge_cost s l r �
 unfolding merge_cost
 merge_cost_is s l r = refl
 
-module _ {E A S : Type 0} (k : Meaning E A S) (laws : Laws k) (a : List (Cell E S)) (p : Pool) (left right : ℕ) (owns : Owns k a p (left ∷ []) (right ∷ []) (2 ^ 18))
-    (few : count (tree a left) + count (tree a right) < most) (short : span (shape k) (tree a left) + span (shape k) (tree a right) ≤ limit)
-    (some : merge_cost (shape k) (tree a left) (tree a right) ≤ p.free) where
+module _ {E A S : Type 0} {k : Meaning E A S} {a : List (Cell E S)} {p : Pool} {left right : ℕ} (owns : Owns k a p (left ∷ []) (right ∷ []) (2 ^ 18)) where
   abbrev L : Tree E
   L = tree a left
 
@@ -65,31 +63,25 @@ module _ {E A S : Type 0} (k : Meaning E A S) (laws : Laws k) (a : List (Cell E 
   pub right_lawful : AllByRecursion (Lawful k) (elements R)
   right_lawful = tree_lawful k a owns.arena.sound right right_live
 
-  spans : span (shape k) s.before + extents (shape k) (listed s.rest) ≡ span (shape k) R
-  spans = parted_extents k laws R 0 right_lawful
+  pub merge_some : merge_cost (shape k) L R ≤ p.free → n ≤ p.free
+  merge_some some = omega (arith, some, merge_cost_is (shape k) L R)
 
-  pub merge_owns : Owns k a p [] (right ∷ []) (2 ^ 20)
-  merge_owns = record { rest = left ∷ owns.rest; arena = owns.arena; kept = λ i among. let h = owns.kept i among in omega arith; few = omega (arith, owns.few) }
-
-  pub merge_few : count R ≤ most
-  merge_few = omega (arith, few)
-
-  pub merge_some : n ≤ p.free
-  merge_some = omega (arith, some, merge_cost_is (shape k) L R)
-
-  module _ (b : List (Cell E S)) (q : Pool) (r : Split E S) (split : Splits k a p [] b q r s n) where
+  module _ (few : count L + count R < most) {b : List (Cell E S)} {q : Pool} {r : Split E S} (split : Splits k a p [] b q r s n) where
     abbrev xs : List ℕ
     xs = loose_roots r.loose
 
-    pub split_arena : Arena k b q (r.before ∷ (xs ++ (left ∷ owns.rest)))
+    split_arena : Arena k b q (r.before ∷ (xs ++ (left ∷ owns.rest)))
     split_arena = (split.each (left ∷ owns.rest) owns.arena).arena
+
+    pub split_owned : (rs : List ℕ) × Arena k b q (r.before ∷ rs)
+    split_owned = (xs ++ (left ∷ owns.rest), split_arena)
 
     pub split_few : cell_count b r.before ≤ most
     split_few =
         let live = rooted k b q (r.before ∷ (xs ++ (left ∷ owns.rest))) split_arena r.before (let h = hit_same r.before in omega arith) in
         omega (arith, (known k b split_arena.sound r.before live).counts, ap count split.before_is, sound.before_few, few)
 
-    module _ (c : List (Cell E S)) (o : Pool) (drop : (rs : List ℕ) → Arena k b q (r.before ∷ rs) → Releases k b q rs c o) where
+    module _ {c : List (Cell E S)} {o : Pool} (drop : (rs : List ℕ) → Arena k b q (r.before ∷ rs) → Releases k b q rs c o) where
       to_c : Moves k a p [] c o xs (n + 0)
       to_c = moves_then k a p [] b q (r.before ∷ xs) n split.each (r.before ∷ []) xs (λ i. omega arith) c o [] 0 (λ rs ar. (drop rs ar).moved) xs (λ i. omega arith)
 
@@ -115,23 +107,23 @@ module _ {E A S : Type 0} (k : Meaning E A S) (laws : Laws k) (a : List (Cell E 
       pub join_few : count (tree c left) + count (tail (behind c r.loose)) < most
       join_few = omega (arith, few, ap count left_is, ap (λ s. count (tail s)) rest_is, sound.rest_few)
 
-      pub join_short : span (shape k) (tree c left) + extents (shape k) (listed (behind c r.loose)) ≤ limit
-      join_short = omega (arith, short, ap (span (shape k)) left_is, ap (λ s. extents (shape k) (listed s)) rest_is, spans)
+      pub join_short : Laws k → span (shape k) L + span (shape k) R ≤ limit → span (shape k) (tree c left) + extents (shape k) (listed (behind c r.loose)) ≤ limit
+      join_short laws short = omega (arith, short, ap (span (shape k)) left_is, ap (λ s. extents (shape k) (listed s)) rest_is, parted_extents k laws R 0 right_lawful)
 
       cost_is : joined_cost (tree c left) (behind c r.loose) ≡ joined_cost L s.rest
       cost_is = ap (λ t. joined_cost t (behind c r.loose)) left_is ∙ ap (joined_cost L) rest_is
 
-      pub join_some : joined_cost (tree c left) (behind c r.loose) ≤ o.free
-      join_some = omega (arith, cost_is, some, merge_cost_is (shape k) L R, at_c.free)
+      pub join_some : merge_cost (shape k) L R ≤ p.free → joined_cost (tree c left) (behind c r.loose) ≤ o.free
+      join_some some = omega (arith, cost_is, some, merge_cost_is (shape k) L R, at_c.free)
 
-      module _ (z : List (Cell E S)) (w : Pool) (x : ℕ) (join : Grows k false c o (left ∷ xs) z w x (joined (tree c left) (behind c r.loose)) (joined_cost (tree c left) (behind c r.loose))) where
-        pub merged : Grows k false a p (left ∷ []) z w x (merge (shape k) L R) (merge_cost (shape k) L R)
-        merged =
-            let cost : 0 + (n + 0) + joined_cost (tree c left) (behind c r.loose) ≡ merge_cost (shape k) L R = omega (arith, cost_is, merge_cost_is (shape k) L R) in
-            let first : Moves k a p (left ∷ []) c o (left ∷ xs) (0 + (n + 0)) =
-            moves_then k a p (left ∷ []) a p (left ∷ []) 0 (moves_none k a p (left ∷ [])) [] (left ∷ []) (λ i. omega arith) c o xs (n + 0) to_c (left ∷ xs) (λ i. omega arith) in
-            record {
-              each = subst (Moves k a p (left ∷ []) z w (x ∷ [])) cost
-                  (moves_then k a p (left ∷ []) c o (left ∷ xs) (0 + (n + 0)) first (left ∷ xs) [] (λ i. omega arith) z w (x ∷ []) (joined_cost (tree c left) (behind c r.loose)) join.each (x ∷ []) (λ i. omega arith));
-              tree_is = join.tree_is ∙ ap (λ t. joined t (behind c r.loose)) left_is ∙ ap (joined L) rest_is ∙ sym (merge_is (shape k) L R);
-            }
+      pub merged : {z : List (Cell E S)} {w : Pool} {x : ℕ} → Grows k false c o (left ∷ xs) z w x (joined (tree c left) (behind c r.loose)) (joined_cost (tree c left) (behind c r.loose))
+          → Grows k false a p (left ∷ []) z w x (merge (shape k) L R) (merge_cost (shape k) L R)
+      merged {z} {w} {x} join =
+          let cost : 0 + (n + 0) + joined_cost (tree c left) (behind c r.loose) ≡ merge_cost (shape k) L R = omega (arith, cost_is, merge_cost_is (shape k) L R) in
+          let first : Moves k a p (left ∷ []) c o (left ∷ xs) (0 + (n + 0)) =
+          moves_then k a p (left ∷ []) a p (left ∷ []) 0 (moves_none k a p (left ∷ [])) [] (left ∷ []) (λ i. omega arith) c o xs (n + 0) to_c (left ∷ xs) (λ i. omega arith) in
+          record {
+            each = subst (Moves k a p (left ∷ []) z w (x ∷ [])) cost
+                (moves_then k a p (left ∷ []) c o (left ∷ xs) (0 + (n + 0)) first (left ∷ xs) [] (λ i. omega arith) z w (x ∷ []) (joined_cost (tree c left) (behind c r.loose)) join.each (x ∷ []) (λ i. omega arith));
+            tree_is = join.tree_is ∙ ap (λ t. joined t (behind c r.loose)) left_is ∙ ap (joined L) rest_is ∙ sym (merge_is (shape k) L R);
+          }

@@ -13,6 +13,12 @@ use Rattle.cells.proofs.Staying.{stays_refl, takes_refl}
 use Rattle.cells.proofs.Arenas.{rerooted}
 use Rattle.cells.proofs.Trees.{none_tree}
 
+abbrev pub none : ℕ
+none = 4294967295
+
+pub none_far : 65535 ≤ none
+none_far = omega arith
+
 module _ {E A S : Type 0} (k : Meaning E A S) (a : List (Cell E S)) (p : Pool) (i : ℕ) (far : 65535 ≤ i) where
   pub owning_none : (rs : List ℕ) → Arena k a p rs → Arena k a p (i ∷ rs)
   owning_none rs arena = rerooted k a p rs arena (i ∷ rs) (λ j h. let o = hit_other i j (λ q. omega (arith, arena.long)) in omega arith)

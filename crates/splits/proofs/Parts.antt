@@ -1,5 +1,5 @@
 -- A tree taken apart: a walk down, and up again on both sides.
-use Rattle.std.proofs.Common.{◌≡◌, ℕ, ◌+◌, ◌-◌, ◌^◌, ◌<◌, ◌≤◌, Bool, true, false, ltb, List, [], ◌∷◌, length, take, Some, None, Option, sym, refl, ap, ◌∙◌, subst, ⊎_elim, arith, le-ltb, lt-ltb}
+use Rattle.std.proofs.Common.{◌≡◌, ℕ, ◌+◌, ◌-◌, ◌^◌, ◌<◌, ◌≤◌, Bool, true, false, ltb, List, [], ◌∷◌, length, Some, None, Option, sym, refl, ap, ◌∙◌, subst, ⊎_elim, arith, le-ltb, lt-ltb}
 use Rattle.std.specs.List.{slice_get}
 use Rattle.std.proofs.lemmas.Bool.{cases_eq}
 use Rattle.faults.specs.Limits.{limit}
@@ -20,7 +20,7 @@ use Rattle.cells.specs.declared.cell.Cell.{Cell}
 use Rattle.cells.specs.declared.pool.Pool.{Pool}
 use Rattle.cells.specs.Cells.{shape, cell_count, tree, linked, Live, Good, Sound, referred}
 use Rattle.cells.specs.Reach.{Among, Alike, Stays, Reached}
-use Rattle.cells.specs.References.{Arena, Holds}
+use Rattle.cells.specs.References.{Arena}
 use Rattle.cells.specs.Moves.{Moved, Moves, Retains}
 use Rattle.cells.proofs.Names.{hit_same, hit_other}
 use Rattle.cells.proofs.Arenas.{rooted}
@@ -75,35 +75,29 @@ module _ {E : Type 0} (s : Shape E) (l : Tree E) (e : E) (r : Tree E) (d : ℕ) 
   -- the first part is no more than the element
   pub up_to_count : count (up_to s l e d) ≤ count l + 1
   up_to_count = ⊎_elim
-      (λ z. omega (arith, ap count (up_to_none s l e d z)))
-      (λ nz. omega (arith, ap count (up_to_some s l e d nz), link_count l (s.part e 0 d) leaf))
+      (λ z. omega (arith, ap count (up_to_none s e d l z)))
+      (λ nz. omega (arith, ap count (up_to_some s e d l nz), link_count l (s.part e 0 d) leaf))
       (cases_eq d 0)
 
   pub up_to_span : ((d ≡ 0 → ⊥) → s.extent (s.part e 0 d) ≡ d) → d ≤ s.extent e → span s (up_to s l e d) ≤ span s l + s.extent e
   up_to_span part_is h = ⊎_elim
-      (λ z. omega (arith, ap (span s) (up_to_none s l e d z)))
-      (λ nz. omega (arith, ap (span s) (up_to_some s l e d nz), link_span s l (s.part e 0 d) leaf, part_is nz))
+      (λ z. omega (arith, ap (span s) (up_to_none s e d l z)))
+      (λ nz. omega (arith, ap (span s) (up_to_some s e d l nz), link_span s l (s.part e 0 d) leaf, part_is nz))
       (cases_eq d 0)
 
 -- ---- on cells
 
-reached_wider : {E S : Type 0} (a : List (Cell E S)) (rs ss : List ℕ) → ((i : ℕ) → Among rs i → Among ss i) → (i : ℕ) → Reached a rs i → Reached a ss i
-reached_wider a rs ss sub i r = record { root = r.root; among = sub r.root r.among; path = r.path; leads = r.leads }
-
-climbs_wider : {E A S : Type 0} (k : Meaning E A S) (flip : Bool) (a : List (Cell E S)) (rs ss : List ℕ) → ((i : ℕ) → Among rs i → Among ss i) → (t : Tree E) (table : List ℕ) (top free : ℕ)
-    → Climbable k flip a rs t table top free → Climbable k flip a ss t table top free
-climbs_wider k flip a rs ss sub t table top free climbs = record {
-  size = climbs.size;
-  fits = climbs.fits;
+climbs_wider : {E A S : Type 0} {k : Meaning E A S} {flip : Bool} {a : List (Cell E S)} {rs : List ℕ} (r : ℕ) {t : Tree E} {is : List ℕ} {free : ℕ} → Climbable k flip a rs t is free → Climbable k flip a (r ∷ rs) t is free
+climbs_wider r climbs = record {
   steps = climbs.steps;
   passed = climbs.passed;
-  reached = λ i among. reached_wider a rs ss sub i (climbs.reached i among);
+  reached = λ i among. let x = climbs.reached i among in record { root = x.root; among = let h = x.among in omega arith; path = x.path; leads = x.leads };
   few = climbs.few;
   short = climbs.short;
   some = climbs.some;
 }
 
-module _ {E A S : Type 0} (k : Meaning E A S) (a : List (Cell E S)) (p : Pool) (rs : List ℕ) (arena : Arena k a p rs) where
+module _ {E A S : Type 0} {k : Meaning E A S} {a : List (Cell E S)} {p : Pool} {rs : List ℕ} (arena : Arena k a p rs) where
   -- what is in use is reached
   used_reached : (i : ℕ) (c : Cell E S) → slice_get a i ≡ Some c → 0 < c.refs → Reached a rs i
   used_reached i c at live = (none_lost k a p rs arena).used_reached i (omega (arith, ap referred at))
@@ -121,40 +115,38 @@ left_live_at : {E A S : Type 0} (k : Meaning E A S) (b : List (Cell E S)) → So
 left_live_at k b sound i c None at alike live = absurd alike
 left_live_at k b sound i c (Some d) at alike live = subst (Live b) (sym alike.left) (sound i d at live).left_live
 
-module _ {E A S : Type 0} (k : Meaning E A S) (laws : Laws k) (a : List (Cell E S)) (p : Pool) (root place : ℕ) (owns : Owns k a p [] (root ∷ []) (2 ^ 20)) (few : count (tree a root) ≤ most) where
+module _ {E A S : Type 0} {k : Meaning E A S} {a : List (Cell E S)} {p : Pool} {root : ℕ} (owns : Owns k a p [] (root ∷ []) (2 ^ 20)) where
   abbrev t : Tree E
   t = tree a root
 
   pub root_live : Live a root
   root_live = rooted k a p owns.rest owns.arena root (owns.kept root (let h = hit_same root in omega arith))
 
-  pub root_few : cell_count a root ≤ most
-  root_few = omega (arith, (known k a owns.arena.sound root root_live).counts)
+  pub root_few : count t ≤ most → cell_count a root ≤ most
+  root_few few = omega (arith, (known k a owns.arena.sound root root_live).counts)
 
-  pub room : Holds k a p [] (2 ^ 30)
-  room = record { rest = owns.rest; arena = owns.arena; few = omega (arith, owns.few) }
+  module _ (place : ℕ) where
+    -- at the end or beyond
+    pub splits_beyond : span (shape k) t ≤ place → (b : List (Cell E S)) → Retains k a root b
+        → Splits k a p [] b p (record { before = root; loose = None }) (parted (shape k) t place) (parted_cost (shape k) t place)
+    splits_beyond h b one =
+        let is = parted_beyond (shape k) t place h in
+        record {
+          each = subst (Moves k a p [] b p (root ∷ [])) (sym (cost_beyond (shape k) t place h)) (one.each p);
+          before_is = seen_stays false a b root (one.here p owns.rest owns.arena) ∙ ap (λ s. s.before) (sym is);
+          rest_is = ap (λ s. s.rest) (sym is);
+          tied = tt;
+        }
 
-  -- at the end or beyond
-  pub splits_beyond : span (shape k) t ≤ place → (b : List (Cell E S)) → Retains k a root b
-      → Splits k a p [] b p (record { before = root; loose = None }) (parted (shape k) t place) (parted_cost (shape k) t place)
-  splits_beyond h b one =
-      let is = parted_beyond (shape k) t place h in
-      record {
-        each = subst (Moves k a p [] b p (root ∷ [])) (sym (cost_beyond (shape k) t place h)) (one.each p);
-        before_is = seen_stays false a b root (one.here p owns.rest owns.arena) ∙ ap (λ s. s.before) (sym is);
-        rest_is = ap (λ s. s.rest) (sym is);
-        tied = tt;
-      }
+    pub leaves_beyond : span (shape k) t ≤ place → Leaves k a p a p None (parted (shape k) t place).rest (parted_cost (shape k) t place)
+    leaves_beyond h = record {
+      each = subst (Moves k a p [] a p []) (sym (cost_beyond (shape k) t place h)) (moves_none k a p []);
+      rest_is = ap (λ s. s.rest) (sym (parted_beyond (shape k) t place h));
+      tied = tt;
+    }
 
-  pub leaves_beyond : span (shape k) t ≤ place → Leaves k a p a p None (parted (shape k) t place).rest (parted_cost (shape k) t place)
-  leaves_beyond h = record {
-    each = subst (Moves k a p [] a p []) (sym (cost_beyond (shape k) t place h)) (moves_none k a p []);
-    rest_is = ap (λ s. s.rest) (sym (parted_beyond (shape k) t place h));
-    tied = tt;
-  }
-
-  module _ (inside : place < span (shape k) t) (some : parted_cost (shape k) t place ≤ p.free) (lefts rights : List ℕ) (lefts_size : length lefts ≡ 64) (rights_size : length rights ≡ 64)
-      (found : Found) (w : Walked k a root place lefts rights found) (c : Cell E S) (at : slice_get a found.cell ≡ Some c) where
+  module _ (laws : Laws k) (few : count t ≤ most) {place : ℕ} {lefts rights : List ℕ} {found : Found} (w : Walked k a root place lefts rights found) {c : Cell E S} (at : slice_get a found.cell ≡ Some c)
+      (inside : place < span (shape k) t) where
     cell_is : w.cell ≡ c
     cell_is = let o : Some c ≡ Some w.cell = sym at ∙ w.at in cc
 
@@ -164,10 +156,7 @@ module _ {E A S : Type 0} (k : Meaning E A S) (laws : Laws k) (a : List (Cell E 
     good : Good k a found.cell c
     good = owns.arena.sound found.cell c at live
 
-    pub holding_tied : (root : ℕ) → Tied k (record { element = c.element; own = Some c.own; root = root })
-    holding_tied root = record { lawful = good.lawful; owns = λ s is. let same : c.own ≡ s = cc in sym same ∙ good.owns }
-
-    pub holding_inside : found.offset < length (k.atoms c.element)
+    holding_inside : found.offset < length (k.atoms c.element)
     holding_inside = subst (λ d. found.offset < length (k.atoms d.element)) cell_is w.inside
 
     abbrev d : ℕ
@@ -219,59 +208,53 @@ module _ {E A S : Type 0} (k : Meaning E A S) (laws : Laws k) (a : List (Cell E 
         let y = ap (rest_cost (shape k)) way_is ∙ rest_cost_walked (shape k) w.steps (here L e R d) (on_from (shape k) e d) R (here_rest (shape k) L e R d) in
         omega (arith, cost_inside (shape k) t place inside, here_costs (shape k) L e R d, ap (λ b. rebuilt_cost rs (mirror b)) (here_before (shape k) L e R d))
 
-    table_short : found.lefts + found.rights ≤ 64
-    table_short = omega (arith, w.leads.short)
-
-    pub asks_behind : Behind k a p c.right lefts found.lefts
-    asks_behind = record {
+    pub asks_behind : parted_cost (shape k) t place ≤ p.free → Behind k a p c d lefts
+    asks_behind some = record {
       rest = owns.rest;
       arena = owns.arena;
       room = omega (arith, owns.few);
       live = good.right_live;
+      whole = record { lawful = good.lawful; owns = good.owns };
+      inside = holding_inside;
       climbs = record {
-        size = lefts_size;
-        fits = omega (arith, table_short);
         steps = ls;
         passed = w.to_left;
-        reached = table_reached k a p owns.rest owns.arena false (take found.lefts lefts) ls w.to_left;
+        reached = table_reached owns.arena false lefts ls w.to_left;
         few = omega (arith, counts);
         short = omega (arith, spans, t_short);
         some = omega (arith, cost_is);
       };
     }
 
-    climbs_a : Climbable k true a owns.rest (mirror U) rights found.rights (rebuilt_cost rs (mirror U))
+    climbs_a : Climbable k true a owns.rest (mirror U) rights (rebuilt_cost rs (mirror U))
     climbs_a = record {
-      size = rights_size;
-      fits = omega (arith, table_short);
       steps = rs;
       passed = w.to_right;
-      reached = table_reached k a p owns.rest owns.arena true (take found.rights rights) rs w.to_right;
+      reached = table_reached owns.arena true rights rs w.to_right;
       few = omega (arith, counts, mirror_count U, up_to_count (shape k) L e R d);
       short = omega (arith, spans, t_short, mirror_span (shape k) U, up_to_span (shape k) L e R d (first_extent k laws e d good.lawful holding_inside) (omega (arith, holding_inside)));
       some = omega arith;
     }
 
-    module _ (b : List (Cell E S)) (q : Pool) (r : ℕ) (grown : Regrown k false a p [] R 0 (take found.lefts lefts) b q r) where
+    module _ {b : List (Cell E S)} {q : Pool} {l : Loose E S} (grown : Regrown k false a p [] R 0 lefts b q l.root) (tied : Tied k l) (element : l.element ≡ on_from (shape k) e d) where
+      abbrev r : ℕ
+      r = l.root
+
       one : Grows k false a p [] b q r (rebuilt link ls R) (0 + rebuilt_cost ls R)
       one = grown ls w.to_left
 
       moved : Moved k a p owns.rest b q (r ∷ []) (0 + rebuilt_cost ls R)
       moved = one.each owns.rest owns.arena
 
+      loose_is : (z : List (Cell E S)) → tree z r ≡ rebuilt link ls R → more l.element (tree z r) ≡ (parted (shape k) t place).rest
+      loose_is z is = ap (λ f. more f (tree z r)) element ∙ ap (more (on_from (shape k) e d)) is ∙ sym rest_is ∙ ap (λ s. s.rest) (sym (parted_inside (shape k) t place inside))
+
       -- what lies behind, by itself
-      pub leaves_inside : (l : Loose E S) → Tied k l → l.element ≡ on_from (shape k) e d → l.root ≡ r
-          → Leaves k a p b q (Some l) (parted (shape k) t place).rest (parted_cost (shape k) t place)
-      leaves_inside l tied element root_is = record {
-        each = subst (λ i. Moves k a p [] b q (i ∷ []) (parted_cost (shape k) t place)) (sym root_is)
-            (moves_more k a p [] b q (r ∷ []) (0 + rebuilt_cost ls R) (parted_cost (shape k) t place) (omega (arith, cost_is)) one.each);
-        rest_is = ap (λ f. more f (tree b l.root)) element ∙ ap (λ i. more (on_from (shape k) e d) (tree b i)) root_is ∙ ap (more (on_from (shape k) e d)) one.tree_is ∙ sym rest_is
-            ∙ ap (λ s. s.rest) (sym (parted_inside (shape k) t place inside));
-        tied = tied;
-      }
+      pub leaves_inside : Leaves k a p b q (Some l) (parted (shape k) t place).rest (parted_cost (shape k) t place)
+      leaves_inside = record { each = moves_more k a p [] b q (r ∷ []) (0 + rebuilt_cost ls R) (parted_cost (shape k) t place) (omega (arith, cost_is)) one.each; rest_is = loose_is b one.tree_is; tied = tied }
 
       cell_reached : Reached a owns.rest found.cell
-      cell_reached = used_reached k a p owns.rest owns.arena found.cell c at live
+      cell_reached = used_reached owns.arena found.cell c at live
 
       cell_stays : Stays a b found.cell
       cell_stays = stays_reached a b owns.rest moved.stay found.cell cell_reached
@@ -283,8 +266,11 @@ module _ {E A S : Type 0} (k : Meaning E A S) (laws : Laws k) (a : List (Cell E 
       left_is : tree b c.left ≡ L
       left_is = seen_stays false a b c.left (near_stays false a b found.cell c at cell_stays)
 
-      pub asks_before : Before k b q c.left e d rights found.rights
-      asks_before = record {
+      abbrev V : Tree E
+      V = up_to (shape k) (tree b c.left) e d
+
+      pub asks_before : parted_cost (shape k) t place ≤ p.free → Before k b q c d rights
+      asks_before some = record {
         rest = r ∷ owns.rest;
         arena = moved.arena;
         room = omega (arith, owns.few);
@@ -292,19 +278,13 @@ module _ {E A S : Type 0} (k : Meaning E A S) (laws : Laws k) (a : List (Cell E 
         lawful = good.lawful;
         inside = holding_inside;
         some = omega (arith, cost_is, moved.free, ap (λ l. up_to_cost l d) left_is);
-        climbs = climbs_wider k true b owns.rest (r ∷ owns.rest) (λ i h. omega arith) (mirror (up_to (shape k) (tree b c.left) e d)) rights found.rights (q.free - up_to_cost (tree b c.left) d)
-            (climbs_on k true a b q owns.rest (r ∷ []) moved.stay moved.arena (λ i h. omega arith) (mirror U) (mirror (up_to (shape k) (tree b c.left) e d)) rights found.rights (rebuilt_cost rs (mirror U)) (q.free - up_to_cost (tree b c.left) d)
-            (ap (λ l. mirror (up_to (shape k) l e d)) (sym left_is)) (omega (arith, cost_is, moved.free, ap (λ l. up_to_cost l d) left_is)) climbs_a);
+        climbs = climbs_wider r (climbs_on moved climbs_a (mirror V) (ap (λ l. mirror (up_to (shape k) l e d)) (sym left_is)) (q.free - up_to_cost (tree b c.left) d)
+            (omega (arith, some, cost_is, moved.free, ap (λ l. up_to_cost l d) left_is)));
       }
 
-      module _ (z : List (Cell E S)) (o : Pool) (x : ℕ)
-          (grown' : Regrown k true b q [] (mirror (up_to (shape k) (tree b c.left) e d)) (up_to_cost (tree b c.left) d) (take found.rights rights) z o x) where
-        abbrev V : Tree E
-        V = up_to (shape k) (tree b c.left) e d
-
+      module _ {z : List (Cell E S)} {o : Pool} {x : ℕ} (grown' : Regrown k true b q [] (mirror V) (up_to_cost (tree b c.left) d) rights z o x) where
         two : Grows k true b q [] z o x (rebuilt link rs (mirror V)) (up_to_cost (tree b c.left) d + rebuilt_cost rs (mirror V))
-        two = grown' rs (table_on k true a b q owns.rest (r ∷ []) moved.stay moved.arena (λ i h. omega arith) (take found.rights rights)
-            (table_reached k a p owns.rest owns.arena true (take found.rights rights) rs w.to_right) rs w.to_right)
+        two = grown' rs (table_on moved climbs_a rs w.to_right)
 
         behind_stays : tree z r ≡ rebuilt link ls R
         behind_stays = seen_stays false b z r ((two.each (r ∷ owns.rest) moved.arena).stay r (let h = hit_same r in omega arith)) ∙ one.tree_is
@@ -314,17 +294,15 @@ module _ {E A S : Type 0} (k : Meaning E A S) (laws : Laws k) (a : List (Cell E 
             sym (mirror_mirror (tree z x)) ∙ ap mirror (two.tree_is ∙ ap (λ l. rebuilt link rs (mirror (up_to (shape k) l e d))) left_is ∙ sym before_is)
             ∙ mirror_mirror (before (shape k) (way (shape k) t place))
 
-        pub splits_inside : (l : Loose E S) → Tied k l → l.element ≡ on_from (shape k) e d → l.root ≡ r
-            → Splits k a p [] z o (record { before = x; loose = Some l }) (parted (shape k) t place) (parted_cost (shape k) t place)
-        splits_inside l tied element root_is =
-            let is = parted_inside (shape k) t place inside in
+        pub splits_inside : Splits k a p [] z o (record { before = x; loose = Some l }) (parted (shape k) t place) (parted_cost (shape k) t place)
+        splits_inside =
             let cost : 0 + rebuilt_cost ls R + (up_to_cost (tree b c.left) d + rebuilt_cost rs (mirror V)) ≡ parted_cost (shape k) t place =
             omega (arith, cost_is, ap (λ l. up_to_cost l d) left_is, ap (λ l. rebuilt_cost rs (mirror (up_to (shape k) l e d))) left_is) in
             let all : Moves k a p [] z o (x ∷ r ∷ []) (0 + rebuilt_cost ls R + (up_to_cost (tree b c.left) d + rebuilt_cost rs (mirror V))) =
             moves_then k a p [] b q (r ∷ []) (0 + rebuilt_cost ls R) one.each [] (r ∷ []) (λ i. omega arith) z o (x ∷ []) (up_to_cost (tree b c.left) d + rebuilt_cost rs (mirror V)) two.each (x ∷ r ∷ []) (λ i. omega arith) in
             record {
-              each = subst (λ i. Moves k a p [] z o (x ∷ i ∷ []) (parted_cost (shape k) t place)) (sym root_is) (subst (Moves k a p [] z o (x ∷ r ∷ [])) cost all);
-              before_is = before_tree ∙ ap (λ s. s.before) (sym is);
-              rest_is = ap (λ f. more f (tree z l.root)) element ∙ ap (λ i. more (on_from (shape k) e d) (tree z i)) root_is ∙ ap (more (on_from (shape k) e d)) behind_stays ∙ sym rest_is ∙ ap (λ s. s.rest) (sym is);
+              each = subst (Moves k a p [] z o (x ∷ r ∷ [])) cost all;
+              before_is = before_tree ∙ ap (λ s. s.before) (sym (parted_inside (shape k) t place inside));
+              rest_is = loose_is z behind_stays;
               tied = tied;
             }

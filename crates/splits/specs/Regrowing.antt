@@ -1,5 +1,5 @@
--- Up a table of passed cells, by links.
-use Rattle.std.specs.Prelude.{◌≡◌, ℕ, ◌+◌, ◌^◌, ◌≤◌, Bool, List, [], ◌∷◌, length, take}
+-- Up the cells that a walk passed, by links.
+use Rattle.std.specs.Prelude.{ℕ, ◌+◌, ◌^◌, ◌≤◌, Bool, List, [], ◌∷◌, length}
 use Rattle.faults.specs.Limits.{limit}
 use Rattle.kinds.specs.Kinds.{Meaning}
 use Rattle.balance.specs.Trees.{Tree, count}
@@ -27,23 +27,21 @@ pub record Joinable {E A S : Type 0} (k : Meaning E A S) (flip : Bool) (cells : 
   pub linkable : Linkable k (seen flip cells low) step.0 step.1
   pub some : link_cost (seen flip cells low) step.1 ≤ pool.free
 
--- A tree t can be linked with all that a table stands for, which the roots rest reach, by so many free cells.
-pub record Climbable {E A S : Type 0} (k : Meaning E A S) (flip : Bool) (cells : List (Cell E S)) (rest : List ℕ) (t : Tree E) (table : List ℕ) (top free : ℕ) : Type 0 where
-  pub size : length table ≡ 64
-  pub fits : top ≤ 64
+-- A tree t can be linked with all that the cells is stand for, which the roots rest reach, by so many free cells.
+pub record Climbable {E A S : Type 0} (k : Meaning E A S) (flip : Bool) (cells : List (Cell E S)) (rest : List ℕ) (t : Tree E) (is : List ℕ) (free : ℕ) : Type 0 where
   pub steps : List (E × Tree E)
-  pub passed : Table flip cells (take top table) steps
-  pub reached : (i : ℕ) → Among (take top table) i → Reached cells rest i
+  pub passed : Table flip cells is steps
+  pub reached : (i : ℕ) → Among is i → Reached cells rest i
   pub few : count t + passed_count steps ≤ most
   pub short : span (shape k) t + passed_span (shape k) steps ≤ limit
   pub some : rebuilt_cost steps t ≤ free
 
 -- so for the tree of the owned root low
-pub record Growable {E A S : Type 0} (k : Meaning E A S) (flip : Bool) (cells : List (Cell E S)) (pool : Pool) (low : ℕ) (table : List ℕ) (top : ℕ) : Type 0 where
+pub record Growable {E A S : Type 0} (k : Meaning E A S) (flip : Bool) (cells : List (Cell E S)) (pool : Pool) (low : ℕ) (is : List ℕ) : Type 0 where
   pub rest : List ℕ
   pub arena : Arena k cells pool (low ∷ rest)
   pub room : length rest ≤ 2 ^ 22
-  pub climbs : Climbable k flip cells rest (seen flip cells low) table top pool.free
+  pub climbs : Climbable k flip cells rest (seen flip cells low) is pool.free
 
 module _ {E A S : Type 0} (k : Meaning E A S) (flip : Bool) (a : List (Cell E S)) (p : Pool) where
   -- low was linked with what the cell i holds
@@ -51,7 +49,7 @@ module _ {E A S : Type 0} (k : Meaning E A S) (flip : Bool) (a : List (Cell E S)
   Grown low i b q r = (s : E × Tree E) → Passed flip a i s
       → Grows k flip a p (low ∷ []) b q r (link (seen flip a low) s.0 s.1) (link_cost (seen flip a low) s.1)
 
-  -- From the given roots xs, and by n cells, a tree t was made, and linked with all that the table stands for.
+  -- From the given roots xs, and by n cells, a tree t was made, and linked with all that the cells is stand for.
   abbrev pub Regrown : List ℕ → Tree E → ℕ → List ℕ → List (Cell E S) → Pool → ℕ → Type 0
-  Regrown xs t n table b q r = (ss : List (E × Tree E)) → Table flip a table ss
+  Regrown xs t n is b q r = (ss : List (E × Tree E)) → Table flip a is ss
       → Grows k flip a p xs b q r (rebuilt link ss t) (n + rebuilt_cost ss t)

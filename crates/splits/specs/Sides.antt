@@ -8,23 +8,26 @@ use Rattle.cells.specs.declared.cell.Cell.{Cell}
 use Rattle.cells.specs.declared.pool.Pool.{Pool}
 use Rattle.cells.specs.Cells.{shape, tree, Live}
 use Rattle.cells.specs.References.{Arena}
+use Rattle.cells.specs.Cells.{Whole}
 use Rattle.splits.specs.Regrowing.{Climbable}
 
--- the tree under right, and behind it what the table has
-pub record Behind {E A S : Type 0} (k : Meaning E A S) (cells : List (Cell E S)) (pool : Pool) (right : ℕ) (lefts : List ℕ) (top : ℕ) : Type 0 where
+-- the element of the cell c from its atom d on, then the tree under its right child, and behind it what the cells is have
+pub record Behind {E A S : Type 0} (k : Meaning E A S) (cells : List (Cell E S)) (pool : Pool) (c : Cell E S) (d : ℕ) (is : List ℕ) : Type 0 where
   pub rest : List ℕ
   pub arena : Arena k cells pool rest
   pub room : length rest ≤ 2 ^ 21
-  pub live : Live cells right
-  pub climbs : Climbable k false cells rest (tree cells right) lefts top pool.free
+  pub live : Live cells c.right
+  pub whole : Whole k (record { element = c.element; own = c.own })
+  pub inside : d < length (k.atoms c.element)
+  pub climbs : Climbable k false cells rest (tree cells c.right) is pool.free
 
--- what the table has, and behind it the tree under left and the first d atoms of the element e
-pub record Before {E A S : Type 0} (k : Meaning E A S) (cells : List (Cell E S)) (pool : Pool) (left : ℕ) (e : E) (d : ℕ) (rights : List ℕ) (top : ℕ) : Type 0 where
+-- what the cells is have, and behind it the tree under the left child of c and the first d atoms of its element
+pub record Before {E A S : Type 0} (k : Meaning E A S) (cells : List (Cell E S)) (pool : Pool) (c : Cell E S) (d : ℕ) (is : List ℕ) : Type 0 where
   pub rest : List ℕ
   pub arena : Arena k cells pool rest
   pub room : length rest ≤ 2 ^ 21
-  pub live : Live cells left
-  pub lawful : Lawful k e
-  pub inside : d < length (k.atoms e)
-  pub some : up_to_cost (tree cells left) d ≤ pool.free
-  pub climbs : Climbable k true cells rest (mirror (up_to (shape k) (tree cells left) e d)) rights top (pool.free - up_to_cost (tree cells left) d)
+  pub live : Live cells c.left
+  pub lawful : Lawful k c.element
+  pub inside : d < length (k.atoms c.element)
+  pub some : up_to_cost (tree cells c.left) d ≤ pool.free
+  pub climbs : Climbable k true cells rest (mirror (up_to (shape k) (tree cells c.left) c.element d)) is (pool.free - up_to_cost (tree cells c.left) d)

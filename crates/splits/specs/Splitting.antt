@@ -1,15 +1,20 @@
 -- Trees taken apart in cells, and put together.
-use Rattle.std.specs.Prelude.{◌≡◌, ℕ, Bool, List, [], ◌∷◌, Some, None, Option}
+use Rattle.std.specs.Prelude.{◌≡◌, ℕ, ◌+◌, ◌^◌, ◌<◌, ◌≤◌, Bool, List, [], ◌∷◌, length, Some, None, Option}
+use Rattle.faults.specs.Limits.{limit}
 use Rattle.kinds.specs.Kinds.{Meaning, Lawful, total}
 use Rattle.kinds.specs.Places.{before, after}
-use Rattle.balance.specs.Trees.{Tree, elements}
+use Rattle.balance.specs.Trees.{Tree, count, elements}
+use Rattle.balance.specs.Ways.{span}
 use Rattle.balance.specs.Edits.{Rest, done, more, listed, Parted}
+use Rattle.balance.specs.Levels.{most}
+use Rattle.balance.specs.Costs.{parted_rest_cost}
 use Rattle.cells.specs.declared.cell.Cell.{Cell}
 use Rattle.cells.specs.declared.pool.Pool.{Pool}
-use Rattle.cells.specs.Cells.{tree, seen}
+use Rattle.cells.specs.Cells.{shape, tree, seen}
 use Rattle.cells.specs.Moves.{Moves}
 use Rattle.splits.specs.declared.split.Loose.{Loose}
 use Rattle.splits.specs.declared.split.Split.{Split}
+use Rattle.splits.specs.Owning.{Owns}
 
 -- what lies behind a place: nothing, or a loose element and the tree behind it
 abbrev pub behind : {E S : Type 0} → List (Cell E S) → Option (Loose E S) → Rest E
@@ -53,3 +58,11 @@ module _ {E A S : Type 0} (k : Meaning E A S) where
   pub record Divided (cells : List (Cell E S)) (r : Split E S) (es : List E) (place : ℕ) : Type 0 where
     pub fore : elements (tree cells r.before) ≡ before k place es
     pub aft : listed (behind cells r.loose) ≡ after k place es
+
+  -- A loose element and the tree behind it, both given away, can be taken apart at a place.
+  pub record Partable (cells : List (Cell E S)) (pool : Pool) (l : Loose E S) (place : ℕ) : Type 0 where
+    pub owns : Owns k cells pool (l.root ∷ []) [] (2 ^ 19)
+    pub tied : Tied l
+    pub few : count (tree cells l.root) < most
+    pub short : length (k.atoms l.element) + span (shape k) (tree cells l.root) ≤ limit
+    pub some : parted_rest_cost (shape k) (more l.element (tree cells l.root)) place ≤ pool.free

@@ -9,7 +9,7 @@ mod regrowing;
 mod siding;
 mod split;
 
+pub use cells::NONE;
 pub use joining::{join, merge};
-pub use loosening::NONE;
 pub use parting::{part, part_behind, part_rest};
 pub use split::{Loose, Split};

@@ -8,17 +8,14 @@ ghost use Rattle.balance.specs.Edits.{up_to, on_from};
 ghost use Rattle.balance.specs.Levels.{most};
 ghost use Rattle.balance.specs.Costs.{up_to_cost};
 ghost use Rattle.cells.specs.Cells.{shape, tree};
-ghost use Rattle.links.specs.Opened.{Whole};
+ghost use Rattle.cells.specs.Cells.{Whole};
 ghost use Rattle.splits.specs.Owning.{Owns};
 ghost use Rattle.splits.specs.Splitting.{Tied, Grows};
 
 use crate::split::Loose;
-use cells::{Cell, Item, Pool};
+use cells::{Cell, Item, NONE, Pool};
 use kinds::Kind;
 use links::link;
-
-// The root of an empty tree. No session has so many cells.
-pub const NONE: u32 = u32::MAX;
 
 // The tree of `left`, and behind it what the element has before its atom `d`.
 pub fn up_to<K: Kind>(
@@ -41,12 +38,8 @@ pub fn up_to<K: Kind>(
     if d == 0 {
         return left;
     }
-    let part = kind.part(element, 0, d);
-    let item = Item {
-        element: part,
-        own: kind.summary(part),
-    };
-    link(kind, cells, pool, left, item, NONE)
+    let first = Item::of(kind, kind.part(element, 0, d));
+    link(kind, cells, pool, left, first, NONE)
 }
 
 // What a loose element has from its atom `d` on, before the same tree. Its summary is not asked for.
@@ -68,7 +61,7 @@ pub fn from_on<K: Kind>(
     Loose {
         element: kind.part(loose.element, d, rest),
         own: None,
-        root: loose.root,
+        ..loose
     }
 }
 
@@ -86,9 +79,6 @@ pub fn item_of<K: Kind>(
             element: loose.element,
             own,
         },
-        None => Item {
-            element: loose.element,
-            own: kind.summary(loose.element),
-        },
+        None => Item::of(kind, loose.element),
     }
 }

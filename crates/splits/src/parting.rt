@@ -1,6 +1,6 @@
 // Taking a tree apart at a place. Between two elements nothing is divided; an element around the place becomes its two
 // parts, of which the second is left loose: most often it is linked elsewhere, or divided once more.
-ghost use Rattle.std.specs.Prelude.{◌≡◌, ◌+◌, ◌^◌, ◌<◌, ◌≤◌, [], ◌∷◌, length};
+ghost use Rattle.std.specs.Prelude.{◌≡◌, ◌+◌, ◌^◌, ◌<◌, ◌≤◌, [], ◌∷◌};
 ghost use Rattle.faults.specs.Limits.{limit};
 ghost use Rattle.kinds.specs.Places.{after};
 ghost use Rattle.balance.specs.Trees.{count, elements};
@@ -11,15 +11,15 @@ ghost use Rattle.balance.specs.Levels.{most};
 ghost use Rattle.balance.specs.Costs.{parted_cost, parted_rest_cost};
 ghost use Rattle.cells.specs.Cells.{shape, tree};
 ghost use Rattle.splits.specs.Owning.{Owns};
-ghost use Rattle.splits.specs.Splitting.{behind, loose_roots, Tied, AllTied, Splits, Leaves, Divided};
+ghost use Rattle.splits.specs.Splitting.{behind, loose_roots, AllTied, Splits, Leaves, Divided, Partable};
 
-use crate::loosening::{NONE, from_on, item_of, up_to};
+use crate::loosening::{from_on, item_of, up_to};
 use crate::siding::{before_of, behind_of};
 use crate::split::{Loose, Split};
-use cells::{Cell, Pool, cell_at, release, retain};
+use cells::{Cell, NONE, Path, Pool, cell_at, release, retain};
 use kinds::Kind;
 use links::link;
-use walks::{descend, width_at};
+use walks::{Found, View};
 
 // The tree of a lent root, taken apart at a place; at its end or beyond, all of it lies before.
 pub fn part<K: Kind>(
@@ -37,36 +37,21 @@ pub fn part<K: Kind>(
         (parted_cost (shape (K.meaning kind.now)) (tree cells.old root) place) }
     ensures lists { Divided (K.meaning kind.now) cells.new result (elements (tree cells.old root)) place }
 {
-    if place >= width_at(kind, cells, root) {
+    let view = View::new(kind, cells, root);
+    if place >= view.width() {
         retain(kind, cells, root);
         return Split {
             before: root,
             loose: None,
         };
     }
-    let mut lefts = [0; 64];
-    let mut rights = [0; 64];
-    let found = descend(kind, cells, root, place, &mut lefts, &mut rights);
-    let c = cell_at(cells, found.cell);
-    let behind = behind_of(kind, cells, pool, c.right, &lefts, found.lefts);
-    let before = before_of(
-        kind,
-        cells,
-        pool,
-        c.left,
-        c.element,
-        found.offset,
-        &rights,
-        found.rights,
-    );
-    let whole = Loose {
-        element: c.element,
-        own: Some(c.own),
-        root: behind,
-    };
+    let (mut lefts, mut rights) = (Path::new(), Path::new());
+    let Found { cell, offset } = view.descend(place, &mut lefts, &mut rights);
+    let c = cell_at(cells, cell);
+    let loose = behind_of(kind, cells, pool, c, offset, lefts.as_slice());
     Split {
-        before,
-        loose: Some(from_on(kind, whole, found.offset)),
+        before: before_of(kind, cells, pool, c, offset, rights.as_slice()),
+        loose: Some(loose),
     }
 }
 
@@ -87,19 +72,14 @@ pub fn part_behind<K: Kind>(
         (parted_cost (shape (K.meaning kind.now)) (tree cells.old root) place) }
     ensures lists { listed (behind cells.new result) ≡ after (K.meaning kind.now) place (elements (tree cells.old root)) }
 {
-    if place >= width_at(kind, cells, root) {
+    let view = View::new(kind, cells, root);
+    if place >= view.width() {
         return None;
     }
-    let mut lefts = [0; 64];
-    let mut rights = [0; 64];
-    let found = descend(kind, cells, root, place, &mut lefts, &mut rights);
-    let c = cell_at(cells, found.cell);
-    let whole = Loose {
-        element: c.element,
-        own: Some(c.own),
-        root: behind_of(kind, cells, pool, c.right, &lefts, found.lefts),
-    };
-    Some(from_on(kind, whole, found.offset))
+    let (mut lefts, mut rights) = (Path::new(), Path::new());
+    let Found { cell, offset } = view.descend(place, &mut lefts, &mut rights);
+    let c = cell_at(cells, cell);
+    Some(behind_of(kind, cells, pool, c, offset, lefts.as_slice()))
 }
 
 // A loose element and the tree behind it, taken apart at a place. Both are given away.
@@ -110,11 +90,7 @@ pub fn part_loose<K: Kind>(
     loose: Loose<K::Element, K::Summary>,
     place: u32,
 ) -> Split<K::Element, K::Summary>
-    requires owns { Owns (K.meaning kind.now) cells.old pool.old (loose.root ∷ []) [] (2 ^ 19) }
-    requires tied { Tied (K.meaning kind.now) loose }
-    requires few { count (tree cells.old loose.root) < most }
-    requires short { length ((K.meaning kind.now).atoms loose.element) + span (shape (K.meaning kind.now)) (tree cells.old loose.root) ≤ limit }
-    requires some { parted_rest_cost (shape (K.meaning kind.now)) (more loose.element (tree cells.old loose.root)) place ≤ pool.old.free }
+    requires { Partable (K.meaning kind.now) cells.old pool.old loose place }
     ensures { Splits (K.meaning kind.now) cells.old pool.old (loose.root ∷ []) cells.new pool.new result
         (parted_rest (shape (K.meaning kind.now)) (more loose.element (tree cells.old loose.root)) place)
         (parted_rest_cost (shape (K.meaning kind.now)) (more loose.element (tree cells.old loose.root)) place) }
@@ -130,10 +106,7 @@ pub fn part_loose<K: Kind>(
     let deeper = part(kind, cells, pool, loose.root, place - own);
     release(kind, cells, pool, loose.root);
     let before = link(kind, cells, pool, NONE, item_of(kind, loose), deeper.before);
-    Split {
-        before,
-        loose: deeper.loose,
-    }
+    Split { before, ..deeper }
 }
 
 // What lies behind a place, taken apart once more.

@@ -1,11 +1,11 @@
 // What lies on one side of a place, from the holding cell up: each cell that the walk passed on that side is linked to
 // what has grown so far. Both sides are written once; only `link_facing` looks at `flip`.
-ghost use Rattle.std.specs.Prelude.{◌≡◌, ◌^◌, ◌≤◌, [], ◌∷◌, take};
+ghost use Rattle.std.specs.Prelude.{◌≡◌, ◌^◌, ◌≤◌, [], ◌∷◌};
 ghost use Rattle.balance.specs.Links.{link};
 ghost use Rattle.balance.specs.Costs.{link_cost};
 ghost use Rattle.cells.specs.Cells.{seen};
 ghost use Rattle.cells.specs.References.{Holds};
-ghost use Rattle.links.specs.Opened.{Whole};
+ghost use Rattle.cells.specs.Cells.{Whole};
 ghost use Rattle.links.specs.Sitting.{Linkable};
 ghost use Rattle.splits.specs.Splitting.{Grows};
 ghost use Rattle.splits.specs.Regrowing.{Joinable, Growable, Grown, Regrown};
@@ -53,38 +53,25 @@ pub fn regrow_one<K: Kind>(
     let c = cell_at(cells, i);
     let far = far_of(flip, c);
     retain(kind, cells, far);
-    link_facing(
-        kind,
-        cells,
-        pool,
-        flip,
-        low,
-        Item {
-            element: c.element,
-            own: c.own,
-        },
-        far,
-    )
+    link_facing(kind, cells, pool, flip, low, Item::from(c), far)
 }
 
-// Up from `low` through the cells of the table, the last first.
+// Up from `low` through the cells that a walk passed, the last first.
+// A loop of its own beside `climb` of links: one loop over a step would ask for the invariants of both as parameters.
 pub fn regrow<K: Kind>(
     kind: &K,
     cells: &mut [Cell<K::Element, K::Summary>],
     pool: &mut Pool,
     flip: bool,
     low: u32,
-    table: &[u32; 64],
-    top: usize,
+    passed: &[u32],
 ) -> u32
-    requires { Growable (K.meaning kind.now) flip cells.old pool.old low table.now top }
-    ensures { Regrown (K.meaning kind.now) flip cells.old pool.old (low ∷ []) (seen flip cells.old low) 0 (take top table.now) cells.new pool.new result }
+    requires { Growable (K.meaning kind.now) flip cells.old pool.old low passed.now }
+    ensures { Regrown (K.meaning kind.now) flip cells.old pool.old (low ∷ []) (seen flip cells.old low) 0 passed.now cells.new pool.new result }
 {
     let mut x = low;
-    let mut n = top;
-    while n > 0 {
-        n -= 1;
-        x = regrow_one(kind, cells, pool, flip, x, table[n]);
+    for &i in passed.iter().rev() {
+        x = regrow_one(kind, cells, pool, flip, x, i);
     }
     x
 }

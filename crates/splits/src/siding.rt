@@ -1,52 +1,59 @@
 // The two sides of a place, each from the cell that holds it up to the root.
-ghost use Rattle.std.specs.Prelude.{◌≡◌, ◌<◌, true, false, [], length, take};
-ghost use Rattle.kinds.specs.Kinds.{Lawful};
+ghost use Rattle.std.specs.Prelude.{◌≡◌, ◌<◌, true, false, [], length};
 ghost use Rattle.balance.specs.Trees.{mirror};
-ghost use Rattle.balance.specs.Edits.{up_to};
+ghost use Rattle.balance.specs.Edits.{up_to, on_from};
 ghost use Rattle.balance.specs.Costs.{up_to_cost};
 ghost use Rattle.cells.specs.Cells.{shape, tree};
+ghost use Rattle.splits.specs.Splitting.{Tied};
 ghost use Rattle.splits.specs.Regrowing.{Regrown};
 ghost use Rattle.splits.specs.Sides.{Behind, Before};
 
-use crate::loosening::up_to;
+use crate::loosening::{from_on, up_to};
 use crate::regrowing::regrow;
+use crate::split::Loose;
 use cells::{Cell, Pool, retain};
 use kinds::Kind;
 
-// What lies behind the holding cell's element: the tree of its right child, and all that the walk left on its right.
+// What lies behind the atoms before `d` of a cell's element: the rest of it, loose, and under its root the tree of the
+// right child and all that the walk left on its right.
 pub fn behind_of<K: Kind>(
     kind: &K,
     cells: &mut [Cell<K::Element, K::Summary>],
     pool: &mut Pool,
-    right: u32,
-    lefts: &[u32; 64],
-    top: usize,
-) -> u32
-    requires { Behind (K.meaning kind.now) cells.old pool.old right lefts.now top }
-    ensures { Regrown (K.meaning kind.now) false cells.old pool.old [] (tree cells.old right) 0 (take top lefts.now) cells.new pool.new result }
+    c: Cell<K::Element, K::Summary>,
+    d: u32,
+    lefts: &[u32],
+) -> Loose<K::Element, K::Summary>
+    requires { Behind (K.meaning kind.now) cells.old pool.old c d lefts.now }
+    ensures regrown { Regrown (K.meaning kind.now) false cells.old pool.old [] (tree cells.old c.right) 0 lefts.now cells.new pool.new result.root }
+    ensures tied { Tied (K.meaning kind.now) result }
+    ensures element { result.element ≡ on_from (shape (K.meaning kind.now)) c.element d }
 {
-    retain(kind, cells, right);
-    regrow(kind, cells, pool, false, right, lefts, top)
+    retain(kind, cells, c.right);
+    let whole = Loose {
+        element: c.element,
+        own: Some(c.own),
+        root: regrow(kind, cells, pool, false, c.right, lefts),
+    };
+    from_on(kind, whole, d)
 }
 
-// What lies before the atom `d` of the holding cell's element: the tree of its left child, what the element has before
-// `d`, and all that the walk left on its left.
+// What lies before the atom `d` of a cell's element: the tree of the left child, what the element has before `d`, and all
+// that the walk left on its left.
 pub fn before_of<K: Kind>(
     kind: &K,
     cells: &mut [Cell<K::Element, K::Summary>],
     pool: &mut Pool,
-    left: u32,
-    element: K::Element,
+    c: Cell<K::Element, K::Summary>,
     d: u32,
-    rights: &[u32; 64],
-    top: usize,
+    rights: &[u32],
 ) -> u32
-    requires { Before (K.meaning kind.now) cells.old pool.old left element d rights.now top }
+    requires { Before (K.meaning kind.now) cells.old pool.old c d rights.now }
     ensures { Regrown (K.meaning kind.now) true cells.old pool.old []
-        (mirror (up_to (shape (K.meaning kind.now)) (tree cells.old left) element d)) (up_to_cost (tree cells.old left) d)
-        (take top rights.now) cells.new pool.new result }
+        (mirror (up_to (shape (K.meaning kind.now)) (tree cells.old c.left) c.element d)) (up_to_cost (tree cells.old c.left) d)
+        rights.now cells.new pool.new result }
 {
-    retain(kind, cells, left);
-    let low = up_to(kind, cells, pool, left, element, d);
-    regrow(kind, cells, pool, true, low, rights, top)
+    retain(kind, cells, c.left);
+    let low = up_to(kind, cells, pool, c.left, c.element, d);
+    regrow(kind, cells, pool, true, low, rights)
 }

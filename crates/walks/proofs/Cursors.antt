@@ -1,5 +1,5 @@
 -- Cursors: where they begin, and what a step gives.
-use Rattle.std.proofs.Common.{◌≡◌, ℕ, zero, suc, ◌+◌, ◌-◌, ◌<◌, ◌≤◌, false, eqb, List, [], ◌∷◌, ◌++◌, length, get_or, take, set, Some, sym, refl, ap, ◌∙◌, subst, ⊎_elim, append_assoc, append-nil, add-one, arith, length-set, take-suc-set, eq-eqb, ne_eqb}
+use Rattle.std.proofs.Common.{◌≡◌, ℕ, zero, suc, ◌+◌, ◌-◌, ◌<◌, ◌≤◌, false, eqb, List, [], ◌∷◌, ◌++◌, length, get_or, take, Some, sym, refl, ap, ◌∙◌, subst, ⊎_elim, append_assoc, append-nil, arith, eq-eqb, ne_eqb}
 use Rattle.std.proofs.lemmas.List.{take_more}
 use Rattle.std.proofs.lemmas.Bool.{cases_eq}
 use Rattle.std.specs.List.{slice_get, flat_map}
@@ -128,27 +128,26 @@ module _ {E A S : Type 0} (k : Meaning E A S) (cells : List (Cell E S)) (root p 
         span_extents (shape k) (tree cells w.cell.right),
       )
 
-  pub walked_begins : Laws k → Sound k cells → Live cells root → (len : ℕ) → length lefts ≡ 64 → cell_count cells root ≤ most → p + len ≤ span (shape k) (tree cells root)
-      → Begins k cells root p len (record { table = set lefts r.lefts r.cell; depth = r.lefts + 1; offset = r.offset; left = len })
+  pub walked_begins : Laws k → Sound k cells → Live cells root → (len : ℕ) → cell_count cells root ≤ most → p + len ≤ span (shape k) (tree cells root)
+      → (table : List ℕ) (n : ℕ) → n ≡ length lefts → (length table ≡ 64) × (take (n + 1) table ≡ lefts ++ (r.cell ∷ []))
+      → Begins k cells root p len (record { table = table; depth = n + 1; offset = r.offset; left = len })
   unfolding on_from
-  walked_begins laws sound live len long few within =
-      let room : r.lefts < length lefts = omega (arith, w.leads.short) in
-      let table : List ℕ = set lefts r.lefts r.cell in
-      let filled : take (r.lefts + 1) table ≡ take r.lefts lefts ++ (r.cell ∷ []) = rw add-one (take-suc-set lefts r.lefts r.cell room) in
-      let waits : pending cells (take (r.lefts + 1) table) ≡ w.cell.element ∷ after =
-      ap (pending cells) filled ∙ pending_push cells (take r.lefts lefts) r.cell ∙ ap (λ o. from_own cells o ++ pending cells (take r.lefts lefts)) w.at
-      ∙ ap (λ l. (w.cell.element ∷ elements (tree cells w.cell.right)) ++ l) (pending_table cells (take r.lefts lefts) (passed_left w.steps) w.to_left) in
+  walked_begins laws sound live len few within table n n_is laid =
+      let filled = laid.1 in
+      let waits : pending cells (take (n + 1) table) ≡ w.cell.element ∷ after =
+      ap (pending cells) filled ∙ pending_push cells lefts r.cell ∙ ap (λ o. from_own cells o ++ pending cells lefts) w.at
+      ∙ ap (λ l. (w.cell.element ∷ elements (tree cells w.cell.right)) ++ l) (pending_table cells lefts (passed_left w.steps) w.to_left) in
       let gives = ap (λ l. front (shape k) len (back (shape k) r.offset l)) waits
       ∙ ap (front (shape k) len) (back_in (shape k) w.cell.element after r.offset w.inside ∙ sym back_is) in
       record {
         ready = record {
-          long = length-set lefts r.lefts r.cell ∙ long;
-          fits = omega (arith, w.leads.short);
+          long = laid.0;
+          fits = omega (arith, n_is, w.leads.short);
           spare = cell_count cells w.cell.left + 1;
           some = omega arith;
           nested = subst (λ is. Nested cells (most + 1) is (cell_count cells w.cell.left + 1)) (sym filled)
-              (nested_wider cells (cell_count cells root + 1) (most + 1) (take r.lefts lefts ++ (r.cell ∷ [])) (cell_count cells w.cell.left + 1)
-              (nested_push cells (cell_count cells root + 1) (take r.lefts lefts) (cell_count cells r.cell + 1) r.cell w.cell w.nested w.at w.live (omega arith)) (omega arith));
+              (nested_wider cells (cell_count cells root + 1) (most + 1) (lefts ++ (r.cell ∷ [])) (cell_count cells w.cell.left + 1)
+              (nested_push cells (cell_count cells root + 1) lefts (cell_count cells r.cell + 1) r.cell w.cell w.nested w.at w.live (omega arith)) (omega arith));
           begun = subst (Begun (shape k) r.offset) (sym waits) w.inside;
           within = omega (arith, after_wide, ap (extents (shape k)) waits);
         };

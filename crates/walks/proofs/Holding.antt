@@ -1,5 +1,5 @@
 -- The way to a place ends at the element that holds it.
-use Rattle.std.proofs.Common.{◌≡◌, ℕ, ◌+◌, ◌<◌, List, [], ◌∷◌, ◌++◌, Some, sym, ap, ◌∙◌, subst, append_assoc, arith}
+use Rattle.std.proofs.Common.{◌≡◌, ℕ, ◌+◌, ◌<◌, List, [], ◌∷◌, ◌++◌, length, Some, sym, ap, ◌∙◌, subst, append_assoc, arith}
 use Rattle.std.specs.List.{slice_get}
 use Rattle.kinds.specs.Kinds.{Meaning}
 use Rattle.balance.specs.Trees.{Tree, elements}
@@ -69,7 +69,7 @@ module _ {E A S : Type 0} (k : Meaning E A S) (cells : List (Cell E S)) (root p 
   walked_atom = way_atom (shape k) (tree cells root) p _ inside (ap spot w.is ∙ walked_spot w.steps _)
 
   pub walked_reads : (c : Cell E S) (first second : ℕ) → slice_get cells r.cell ≡ Some c → first ≡ k.first c.element → second ≡ k.second c.element
-      → Reads k cells root p (record { first = first; second = second; offset = r.offset; count = r.lefts + r.rights + 1 })
+      → Reads k cells root p (record { first = first; second = second; offset = r.offset; count = length lefts + length rights + 1 })
   walked_reads c first second at first_is second_is =
       let at_walked = w.at in
       let same : w.cell ≡ c = cc in
@@ -82,8 +82,8 @@ module _ {E A S : Type 0} (k : Meaning E A S) (cells : List (Cell E S)) (root p 
       }
 
   pub walked_by_path : (c : Cell E S) (first second : ℕ) → slice_get cells r.cell ≡ Some c → first ≡ k.first c.element → second ≡ k.second c.element
-      → PathTo k cells root p (r.lefts + r.rights + 1) r.cell
-      → ReadsByPath k cells root p (record { first = first; second = second; offset = r.offset; count = r.lefts + r.rights + 1 })
+      → PathTo k cells root p (length lefts + length rights + 1) r.cell
+      → ReadsByPath k cells root p (record { first = first; second = second; offset = r.offset; count = length lefts + length rights + 1 })
   walked_by_path c first second at first_is second_is to =
       let at_walked = w.at in
       let there = to.by_path.on_path.at in

@@ -1,3 +1,4 @@
+pub mod Views
 pub mod Nodes
 pub mod Nestings
 pub mod Tables

@@ -1,6 +1,7 @@
 -- A cell in use, as the node of a tree.
-use Rattle.std.proofs.Common.{◌≡◌, ℕ, ◌+◌, ◌<◌, List, [], ◌∷◌, ◌++◌, length, Some, None, Option, sym, refl, ap, ◌∙◌, subst, append_assoc, arith}
-use Rattle.std.specs.List.{slice_get, flat_map}
+use Rattle.std.proofs.Common.{◌≡◌, ℕ, ◌+◌, ◌<◌, List, ◌∷◌, ◌++◌, length, Some, None, Option, refl, ap, ◌∙◌, subst, arith}
+use Rattle.std.proofs.lemmas.Grind.{flat_map-append}
+use Rattle.std.specs.List.{slice_get}
 use Rattle.kinds.specs.Kinds.{Meaning}
 use Rattle.balance.specs.Trees.{node, elements}
 use Rattle.balance.specs.Ways.{span}
@@ -8,10 +9,6 @@ use Rattle.cells.specs.declared.cell.Cell.{Cell}
 use Rattle.cells.specs.Cells.{shape, counted, cell_count, tree, meant, linked, Live, Good, Sound}
 use Rattle.cells.proofs.Lists.{some_in}
 use Rattle.cells.proofs.Trees.{opened, none_tree}
-
-pub joined_append : {X A : Type 0} (f : X → List A) (xs ys : List X) → flat_map f (xs ++ ys) ≡ flat_map f xs ++ flat_map f ys
-joined_append f [] ys = refl
-joined_append f (x ∷ xs) ys = ap (λ l. f x ++ l) (joined_append f xs ys) ∙ sym (append_assoc (f x) (flat_map f xs) (flat_map f ys))
 
 module _ {E A S : Type 0} (k : Meaning E A S) (cells : List (Cell E S)) (sound : Sound k cells) where
   -- a link with a place under it names a cell
@@ -39,4 +36,4 @@ module _ {E A S : Type 0} (k : Meaning E A S) (cells : List (Cell E S)) (sound :
     node_count = ap counted at ∙ node_good.counts
 
     pub node_meant : meant k (tree cells i) ≡ meant k (tree cells c.left) ++ (k.atoms c.element ++ meant k (tree cells c.right))
-    node_meant = ap (meant k) node_is ∙ joined_append k.atoms (elements (tree cells c.left)) (c.element ∷ elements (tree cells c.right))
+    node_meant = ap (meant k) node_is ∙ flat_map-append k.atoms (elements (tree cells c.left)) (c.element ∷ elements (tree cells c.right))

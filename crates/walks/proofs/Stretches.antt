@@ -1,5 +1,6 @@
 -- Stretches of a list that is made of others.
 use Rattle.std.proofs.Common.{◌≡◌, ℕ, zero, suc, ◌+◌, ◌-◌, ◌<◌, ◌≤◌, min, List, [], ◌∷◌, ◌++◌, length, take, drop, sym, ap, ◌∙◌, arith, length-drop, take_all}
+use Rattle.std.proofs.lemmas.List.{take_min, drop_min}
 use lib.Seq.{take-append-le, drop-append-le, take-append-add, drop-append-add}
 
 module _ {A : Type 0} where
@@ -17,21 +18,6 @@ module _ {A : Type 0} where
   drop_two (suc n) (x ∷ xs) ys =
       let less : n - length xs ≡ suc n - length (x ∷ xs) = omega arith in
       drop_two n xs ys ∙ ap (λ (m : ℕ). drop n xs ++ drop m ys) less
-
-  -- nothing changes past the end
-  pub take_min : (n : ℕ) (xs : List A) → take (min n (length xs)) xs ≡ take n xs
-  take_min zero xs = let none : min 0 (length xs) ≡ 0 = omega arith in ap (λ (m : ℕ). take m xs) none
-  take_min (suc n) [] = let none : min (suc n) 0 ≡ 0 = omega arith in ap (λ (m : ℕ). take m []) none
-  take_min (suc n) (x ∷ xs) =
-      let less : min (suc n) (length (x ∷ xs)) ≡ suc (min n (length xs)) = omega arith in
-      ap (λ (m : ℕ). take m (x ∷ xs)) less ∙ ap (λ l. x ∷ l) (take_min n xs)
-
-  pub drop_min : (n : ℕ) (xs : List A) → drop (min n (length xs)) xs ≡ drop n xs
-  drop_min zero xs = let none : min 0 (length xs) ≡ 0 = omega arith in ap (λ (m : ℕ). drop m xs) none
-  drop_min (suc n) [] = let none : min (suc n) 0 ≡ 0 = omega arith in ap (λ (m : ℕ). drop m []) none
-  drop_min (suc n) (x ∷ xs) =
-      let less : min (suc n) (length (x ∷ xs)) ≡ suc (min n (length xs)) = omega arith in
-      ap (λ (m : ℕ). drop m (x ∷ xs)) less ∙ drop_min n xs
 
   module _ (left own right : List A) where
     -- what a place divides: the left list, the own one or the right one

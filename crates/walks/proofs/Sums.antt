@@ -1,5 +1,7 @@
 -- Lists of atoms that a kind can sum up, and their parts.
-use Rattle.std.proofs.Common.{◌≡◌, ℕ, ◌≤◌, List, [], ◌∷◌, ◌++◌, length, take, drop, Some, None, Option, sym, refl, ap, ◌∙◌, subst, arith, length-append, take-append-drop, take_all}
+use Rattle.std.proofs.Common.{◌≡◌, ℕ, ◌≤◌, List, [], ◌++◌, length, take, drop, Some, None, Option, sym, refl, ap, ◌∙◌, subst, arith, length-append, length-take, length-drop, take_all}
+use Rattle.std.proofs.ByRecursion.{All-take, All-drop}
+use lib.Seq.{take-append_seam, drop-append_seam}
 use Rattle.std.specs.List.{slice_get, AllByRecursion}
 use Rattle.faults.specs.Limits.{limit}
 use Rattle.kinds.specs.Kinds.{Meaning, Laws, Lawful, Within, IsAtom, Joinable, total}
@@ -10,12 +12,10 @@ use Rattle.cells.specs.Cells.{shape, tree, meant, summed, sum_at, linked, Live, 
 use Rattle.cells.proofs.Trees.{none_tree, meant_span}
 
 all_left : {X : Type 0} (P : X → Type 0) (xs ys : List X) → AllByRecursion P (xs ++ ys) → AllByRecursion P xs
-all_left P [] ys a = tt
-all_left P (x ∷ xs) ys a = (a.0, all_left P xs ys a.1)
+all_left P xs ys a = subst (AllByRecursion P) (take-append_seam xs ys) (All-take P (length xs) (xs ++ ys) a)
 
 all_right : {X : Type 0} (P : X → Type 0) (xs ys : List X) → AllByRecursion P (xs ++ ys) → AllByRecursion P ys
-all_right P [] ys a = a
-all_right P (x ∷ xs) ys a = all_right P xs ys a.1
+all_right P xs ys a = subst (AllByRecursion P) (drop-append_seam xs ys) (All-drop P (length xs) (xs ++ ys) a)
 
 -- atoms, at most the limit
 pub record Few {E A S : Type 0} (k : Meaning E A S) (xs : List A) : Type 0 where
@@ -33,10 +33,10 @@ module _ {E A S : Type 0} (k : Meaning E A S) where
   few_right xs ys f = record { atomic = all_right (IsAtom k) xs ys f.atomic; few = omega (arith, f.few, length-append xs ys) }
 
   pub few_take : (n : ℕ) (xs : List A) → Few k xs → Few k (take n xs)
-  few_take n xs f = few_left (take n xs) (drop n xs) (subst (Few k) (sym (take-append-drop n xs)) f)
+  few_take n xs f = record { atomic = All-take (IsAtom k) n xs f.atomic; few = omega (arith, f.few, length-take n xs) }
 
   pub few_drop : (n : ℕ) (xs : List A) → Few k xs → Few k (drop n xs)
-  few_drop n xs f = few_right (take n xs) (drop n xs) (subst (Few k) (sym (take-append-drop n xs)) f)
+  few_drop n xs f = record { atomic = All-drop (IsAtom k) n xs f.atomic; few = omega (arith, f.few, length-drop n xs) }
 
   -- the atoms under a live link
   pub few_tree : (cells : List (Cell E S)) → Sound k cells → (i : ℕ) → Live cells i → Few k (meant k (tree cells i))

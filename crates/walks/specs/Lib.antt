@@ -1,3 +1,4 @@
+pub mod Versions
 pub mod Nesting
 pub mod Paths
 pub mod Walks

@@ -1,13 +1,10 @@
 // What walks answer.
 
-// The cell that holds a place and the offset of the place in its element; and how many cells the walk passed to their
-// left child and to their right one, which is how far it filled its two tables.
+// The cell that holds a place and the offset of the place in its element.
 #[derive(Clone, Copy)]
 pub struct Found {
     pub cell: u32,
     pub offset: u32,
-    pub lefts: usize,
-    pub rights: usize,
 }
 
 // The two numbers of the element that holds a place, the offset of the place in it, and how many cells lead there.

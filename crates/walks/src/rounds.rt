@@ -10,33 +10,9 @@ ghost use Rattle.walks.specs.Nesting.{Nested};
 ghost use Rattle.walks.specs.Spines.{Spine};
 
 use crate::cursor::Cursor;
-use crate::places::descend;
-use cells::{Cell, cell_at, count_at};
+use crate::view::View;
+use cells::{Cell, Path, cell_at, count_at};
 use kinds::Kind;
-
-// Puts a cell, its left child, that one's left child and so on into the table, and tells how far it is filled then.
-fn go_down<K: Kind>(
-    kind: &K,
-    cells: &[Cell<K::Element, K::Summary>],
-    table: &mut [u32; 64],
-    depth: usize,
-    link: u32,
-) -> usize
-    requires sound { Sound (K.meaning kind.now) cells.now }
-    requires live { Live cells.now link }
-    requires fits { depth ≤ 64 }
-    requires nested { Nested cells.now (most + 1) (take depth table.old) (cell_count cells.now link + 1) }
-    ensures { Spine cells.now (take depth table.old) link table.new result }
-{
-    let mut cell = link;
-    let mut filled = depth;
-    while count_at(cells, cell) > 0 {
-        table[filled] = cell;
-        filled += 1;
-        cell = cell_at(cells, cell).left;
-    }
-    filled
-}
 
 // What an element has from its atom `d` on.
 fn from_offset<K: Kind>(kind: &K, element: K::Element, d: u32) -> K::Element
@@ -51,58 +27,74 @@ fn from_offset<K: Kind>(kind: &K, element: K::Element, d: u32) -> K::Element
     }
 }
 
-// A cursor over the `len` atoms from the place `from` on of the tree under `root`.
-pub fn begin<K: Kind>(
-    kind: &K,
-    cells: &[Cell<K::Element, K::Summary>],
-    root: u32,
-    from: u32,
-    len: u32,
-) -> Cursor
-    requires sound { Sound (K.meaning kind.now) cells.now }
-    requires live { Live cells.now root }
-    requires some { 1 ≤ len }
-    requires within { from + len ≤ span (shape (K.meaning kind.now)) (tree cells.now root) }
-    requires few { cell_count cells.now root ≤ most }
-    ensures { Begins (K.meaning kind.now) cells.now root from len result }
-{
-    let mut table = [0; 64];
-    let mut rights = [0; 64];
-    let found = descend(kind, cells, root, from, &mut table, &mut rights);
-    table[found.lefts] = found.cell;
-    Cursor {
-        table,
-        depth: found.lefts + 1,
-        offset: found.offset,
-        left: len,
+impl<'a, K: Kind> View<'a, K> {
+    // A cursor over the `len` atoms from the place `from` on.
+    pub fn cursor(&self, from: u32, len: u32) -> Cursor
+        requires some { 1 ≤ len }
+        requires within { from + len ≤ span (shape (K.meaning self.now.kind)) (tree self.now.cells self.now.root) }
+        requires few { cell_count self.now.cells self.now.root ≤ most }
+        ensures { Begins (K.meaning self.now.kind) self.now.cells self.now.root from len result }
+    {
+        // What stands of the view is known once a field of it is named.
+        let _ = &self.cells;
+        let (mut lefts, mut rights) = (Path::new(), Path::new());
+        let found = self.descend(from, &mut lefts, &mut rights);
+        let depth = lefts.len();
+        let mut table = [0; 64];
+        table[..depth].copy_from_slice(lefts.as_slice());
+        table[depth] = found.cell;
+        Cursor {
+            table,
+            depth: depth + 1,
+            offset: found.offset,
+            left: len,
+        }
     }
 }
 
-// The next element of the range, and at its ends what the range has of one.
-pub fn advance<K: Kind>(
-    kind: &K,
-    cells: &[Cell<K::Element, K::Summary>],
-    cursor: &mut Cursor,
-) -> Option<K::Element>
-    requires sound { Sound (K.meaning kind.now) cells.now }
-    requires ready { Ready (K.meaning kind.now) cells.now cursor.old }
-    ensures ready { Ready (K.meaning kind.now) cells.now cursor.new }
-    ensures given { MatchOption result (Ended (K.meaning kind.now) cells.now cursor.old cursor.new) (Gave (K.meaning kind.now) cells.now cursor.old cursor.new) }
-{
-    if cursor.left == 0 {
-        return None;
+impl Cursor {
+    // Puts a cell, its left child, that one's left child and so on into the table.
+    fn go_down<K: Kind>(&mut self, kind: &K, cells: &[Cell<K::Element, K::Summary>], link: u32)
+        requires sound { Sound (K.meaning kind.now) cells.now }
+        requires live { Live cells.now link }
+        requires fits { self.old.depth ≤ 64 }
+        requires nested { Nested cells.now (most + 1) (take self.old.depth self.old.table) (cell_count cells.now link + 1) }
+        ensures { Spine cells.now (take self.old.depth self.old.table) link self.new.table self.new.depth }
+    {
+        let mut cell = link;
+        while count_at(cells, cell) > 0 {
+            self.table[self.depth] = cell;
+            self.depth += 1;
+            cell = cell_at(cells, cell).left;
+        }
     }
-    let top = cursor.depth - 1;
-    let c = cell_at(cells, cursor.table[top]);
-    let rest = from_offset(kind, c.element, cursor.offset);
-    let width = kind.extent(rest);
-    cursor.depth = go_down(kind, cells, &mut cursor.table, top, c.right);
-    cursor.offset = 0;
-    if cursor.left < width {
-        let last = kind.part(rest, 0, cursor.left);
-        cursor.left = 0;
-        return Some(last);
+
+    // The next element of the range, and at its ends what the range has of one.
+    pub fn advance<K: Kind>(
+        &mut self,
+        kind: &K,
+        cells: &[Cell<K::Element, K::Summary>],
+    ) -> Option<K::Element>
+        requires sound { Sound (K.meaning kind.now) cells.now }
+        requires ready { Ready (K.meaning kind.now) cells.now self.old }
+        ensures ready { Ready (K.meaning kind.now) cells.now self.new }
+        ensures given { MatchOption result (Ended (K.meaning kind.now) cells.now self.old self.new) (Gave (K.meaning kind.now) cells.now self.old self.new) }
+    {
+        let left = self.left;
+        if left == 0 {
+            return None;
+        }
+        self.depth -= 1;
+        let c = cell_at(cells, self.table[self.depth]);
+        let rest = from_offset(kind, c.element, self.offset);
+        let width = kind.extent(rest);
+        self.go_down(kind, cells, c.right);
+        self.offset = 0;
+        if left < width {
+            self.left = 0;
+            return Some(kind.part(rest, 0, left));
+        }
+        self.left = left - width;
+        Some(rest)
     }
-    cursor.left -= width;
-    Some(rest)
 }

@@ -2,12 +2,13 @@
 ghost use Rattle.std.specs.Prelude.{◌<◌, ◌≤◌};
 ghost use Rattle.kinds.specs.Kinds.{Lawful, Tallies, total};
 ghost use Rattle.balance.specs.Levels.{most};
-ghost use Rattle.cells.specs.Cells.{tree, meant, cell_count, Live, Sound};
+ghost use Rattle.cells.specs.Cells.{tree, meant, cell_count};
 ghost use Rattle.walks.specs.Paths.{ByPath};
 ghost use Rattle.walks.specs.Tallying.{Passes, Finds};
 
 use crate::answers::Located;
-use cells::{Cell, cell_at, summary_at};
+use crate::view::View;
+use cells::{cell_at, summary_at};
 use kinds::{Kind, Tally};
 
 // The atom of the element at which its tally passes `t`. Each turn asks for half as many atoms as the one before.
@@ -34,45 +35,40 @@ fn find_within<K: Tally>(kind: &K, element: K::Element, t: u64) -> u32
     from
 }
 
-// The place at which the tally of the tree under `root` passes `t`.
-pub fn find<K: Tally>(
-    kind: &K,
-    cells: &[Cell<K::Element, K::Summary>],
-    root: u32,
-    t: u64,
-) -> Located
-    requires sound { Sound (K.Kind.meaning kind.now) cells.now }
-    requires live { Live cells.now root }
-    requires few { cell_count cells.now root ≤ most }
-    requires adds { Tallies (K.Kind.meaning kind.now) (K.tallied kind.now) }
-    requires below { t < K.tallied kind.now (total (K.Kind.meaning kind.now) (meant (K.Kind.meaning kind.now) (tree cells.now root))) }
-    ensures finds { Finds (K.Kind.meaning kind.now) (K.tallied kind.now) cells.now root t result }
-    ensures path { ByPath (K.Kind.meaning kind.now) cells.now root result.place result.count }
-{
-    let mut cell = root;
-    let mut rest = t;
-    let mut base = 0;
-    let mut count = 0;
-    loop {
-        let c = cell_at(cells, cell);
-        count += 1;
-        let left = summary_at(kind, cells, c.left);
-        let before = kind.tally(left);
-        if rest < before {
-            cell = c.left;
-        } else {
-            let past = rest - before;
-            let own = kind.tally(c.own);
-            let start = base + kind.width(left);
-            if past < own {
-                return Located {
-                    place: start + find_within(kind, c.element, past),
-                    count,
-                };
+impl<'a, K: Tally> View<'a, K> {
+    // The place at which the tally of the tree passes `t`.
+    pub fn find(&self, t: u64) -> Located
+        requires few { cell_count self.now.cells self.now.root ≤ most }
+        requires adds { Tallies (K.Kind.meaning self.now.kind) (K.tallied self.now.kind) }
+        requires below { t < K.tallied self.now.kind (total (K.Kind.meaning self.now.kind) (meant (K.Kind.meaning self.now.kind) (tree self.now.cells self.now.root))) }
+        ensures finds { Finds (K.Kind.meaning self.now.kind) (K.tallied self.now.kind) self.now.cells self.now.root t result }
+        ensures path { ByPath (K.Kind.meaning self.now.kind) self.now.cells self.now.root result.place result.count }
+    {
+        let mut cell = self.root;
+        let mut rest = t;
+        let mut base = 0;
+        let mut count = 0;
+        loop {
+            let c = cell_at(self.cells, cell);
+            count += 1;
+            let left = summary_at(self.kind, self.cells, c.left);
+            let before = self.kind.tally(left);
+            if rest < before {
+                cell = c.left;
+            } else {
+                let past = rest - before;
+                let own = self.kind.tally(c.own);
+                let start = base + self.kind.width(left);
+                if past < own {
+                    return Located {
+                        place: start + find_within(self.kind, c.element, past),
+                        count,
+                    };
+                }
+                rest = past - own;
+                base = start + self.kind.extent(c.element);
+                cell = c.right;
             }
-            rest = past - own;
-            base = start + kind.extent(c.element);
-            cell = c.right;
         }
     }
 }

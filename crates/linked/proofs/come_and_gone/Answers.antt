@@ -1,29 +1,26 @@
 use Rattle.std.proofs.Common.{[], arith}
-use Rattle.linked.proofs.Lives.{start_owned, first_fits, holds_b, linkable_b, some_b, arena_c, few_c, free_c}
+use Rattle.linked.proofs.Lives.{first, second, last}
 use Rattle.linked.proofs.come_and_gone.Goals as goal
 
 pub make-one-requires : goal.make-one-requires
-make-one-requires g c = record {
-  owned = ([], start_owned (g.K.Kind.meaning c.args.kind.now) (record { element = c.args.element; own = c.summary.result }) (record { lawful = c.requires.lawful; owns = c.summary.ensures c.requires.lawful }) c.requires.short 4294967295 (omega arith) c.start-pool.new.cells c.start-pool.result c.start-pool.ensures.arena (omega (arith, c.start-pool.ensures.free, c.requires.size.0)));
-  fits = first_fits (g.K.Kind.meaning c.args.kind.now) (record { element = c.args.element; own = c.summary.result }) (record { lawful = c.requires.lawful; owns = c.summary.ensures c.requires.lawful }) c.requires.short 4294967295 (omega arith) c.start-pool.new.cells c.start-pool.result c.start-pool.ensures.arena (omega (arith, c.start-pool.ensures.free, c.requires.size.0));
-  some = omega (arith, c.start-pool.ensures.free, c.requires.size.0);
-}
+make-one-requires g c =
+    let f = first (c.of-item.ensures.whole c.requires.lawful) c.of-item.ensures.element c.requires.short 4294967295 (omega arith) c.start-pool.ensures.arena (omega (arith, c.start-pool.ensures.free, c.requires.size.0)) in
+    record { owned = ([], f.owned); fits = f.fits; some = omega (arith, c.start-pool.ensures.free, c.requires.size.0) }
 
 pub link-two-requires : goal.link-two-requires
-link-two-requires g c = record {
-  holds = holds_b (g.K.Kind.meaning c.args.kind.now) (record { element = c.args.element; own = c.summary.result }) (record { lawful = c.requires.lawful; owns = c.summary.ensures c.requires.lawful }) c.requires.short 4294967295 (omega arith) c.start-pool.new.cells c.start-pool.result c.start-pool.ensures.arena (omega (arith, c.start-pool.ensures.free, c.requires.size.0)) c.make-one.new.cells c.make-one.new.pool c.make-one.result c.make-one.ensures.yields;
-  linkable = linkable_b (g.K.Kind.meaning c.args.kind.now) (record { element = c.args.element; own = c.summary.result }) (record { lawful = c.requires.lawful; owns = c.summary.ensures c.requires.lawful }) c.requires.short 4294967295 (omega arith) c.start-pool.new.cells c.start-pool.result c.start-pool.ensures.arena (omega (arith, c.start-pool.ensures.free, c.requires.size.0)) c.make-one.new.cells c.make-one.new.pool c.make-one.result c.make-one.ensures.yields;
-  whole = record { lawful = c.requires.lawful; owns = c.summary.ensures c.requires.lawful };
-  some = some_b (g.K.Kind.meaning c.args.kind.now) (record { element = c.args.element; own = c.summary.result }) (record { lawful = c.requires.lawful; owns = c.summary.ensures c.requires.lawful }) c.requires.short 4294967295 (omega arith) c.start-pool.new.cells c.start-pool.result c.start-pool.ensures.arena (omega (arith, c.start-pool.ensures.free, c.requires.size.0)) c.make-one.new.cells c.make-one.new.pool c.make-one.result c.make-one.ensures.yields;
-}
+link-two-requires g c =
+    let s = second (c.of-item.ensures.whole c.requires.lawful) c.of-item.ensures.element c.requires.short 4294967295 (omega arith) c.start-pool.ensures.arena (omega (arith, c.start-pool.ensures.free, c.requires.size.0))
+    c.make-one.ensures.yields in
+    record { holds = s.holds; linkable = s.linkable; whole = c.of-item.ensures.whole c.requires.lawful; some = s.some }
 
 pub release-requires : goal.release-requires
-release-requires g c = record {
-  owned = ([], arena_c (g.K.Kind.meaning c.args.kind.now) (record { element = c.args.element; own = c.summary.result }) (record { lawful = c.requires.lawful; owns = c.summary.ensures c.requires.lawful }) c.requires.short 4294967295 (omega arith) c.start-pool.new.cells c.start-pool.result c.start-pool.ensures.arena (omega (arith, c.start-pool.ensures.free, c.requires.size.0)) c.make-one.new.cells c.make-one.new.pool c.make-one.result c.make-one.ensures.yields c.link-two.new.cells c.link-two.new.pool c.link-two.result c.link-two.ensures.yields);
-  few = few_c (g.K.Kind.meaning c.args.kind.now) (record { element = c.args.element; own = c.summary.result }) (record { lawful = c.requires.lawful; owns = c.summary.ensures c.requires.lawful }) c.requires.short 4294967295 (omega arith) c.start-pool.new.cells c.start-pool.result c.start-pool.ensures.arena (omega (arith, c.start-pool.ensures.free, c.requires.size.0)) c.make-one.new.cells c.make-one.new.pool c.make-one.result c.make-one.ensures.yields c.link-two.new.cells c.link-two.new.pool c.link-two.result c.link-two.ensures.yields;
-}
+release-requires g c =
+    let l = last (c.of-item.ensures.whole c.requires.lawful) c.of-item.ensures.element c.requires.short 4294967295 (omega arith) c.start-pool.ensures.arena (omega (arith, c.start-pool.ensures.free, c.requires.size.0))
+    c.make-one.ensures.yields c.link-two.ensures.yields in
+    record { owned = ([], l.owned); few = l.few }
 
 pub returns : goal.returns
 returns g c =
-    let all = free_c (g.K.Kind.meaning c.args.kind.now) (record { element = c.args.element; own = c.summary.result }) (record { lawful = c.requires.lawful; owns = c.summary.ensures c.requires.lawful }) c.requires.short 4294967295 (omega arith) c.start-pool.new.cells c.start-pool.result c.start-pool.ensures.arena (omega (arith, c.start-pool.ensures.free, c.requires.size.0)) c.make-one.new.cells c.make-one.new.pool c.make-one.result c.make-one.ensures.yields c.link-two.new.cells c.link-two.new.pool c.link-two.result c.link-two.ensures.yields c.release.new.cells c.release.new.pool c.release.ensures in
-    omega (arith, c.free.ensures.0)
+    let l = last (c.of-item.ensures.whole c.requires.lawful) c.of-item.ensures.element c.requires.short 4294967295 (omega arith) c.start-pool.ensures.arena (omega (arith, c.start-pool.ensures.free, c.requires.size.0))
+    c.make-one.ensures.yields c.link-two.ensures.yields in
+    omega (arith, c.free.ensures.0, l.all _ _ c.release.ensures)

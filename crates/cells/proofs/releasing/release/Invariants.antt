@@ -1,10 +1,10 @@
-use Rattle.std.proofs.Common.{◌+◌, ◌*◌}
+use Rattle.std.proofs.Common.{◌+◌, ◌*◌, length}
 use Rattle.cells.specs.References.{used}
 use Rattle.cells.proofs.Debts.{Paying}
 use Rattle.cells.proofs.releasing.release.Given as goal
 
-abbrev pub invariant-loop-top : goal.invariant-loop-top
-invariant-loop-top g l = Paying (g.K.Kind.meaning l.kind) l.initial.cells l.initial.pool l.root l.cells l.pool l.owed l.top
+abbrev pub invariant-loop-link : goal.invariant-loop-link
+invariant-loop-link g l = Paying (g.K.Kind.meaning l.kind) l.fn.cells l.fn.pool l.root l.cells l.pool l.owed.items
 
-abbrev pub decreases-loop-top : goal.decreases-loop-top
-decreases-loop-top g l = 2 * used l.cells + l.top
+abbrev pub decreases-loop-link : goal.decreases-loop-link
+decreases-loop-link g l = 2 * used l.cells + length l.owed.items

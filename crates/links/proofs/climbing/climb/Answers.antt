@@ -1,20 +1,25 @@
-use Rattle.std.proofs.Common.{◌-◌, arith}
-use Rattle.links.proofs.Climbs.{climbing_start, above, is_inside, raised_sits, free_left, climbing_more, climbing_end}
+use Rattle.std.proofs.Common.{sym, subst}
+use Rattle.std.proofs.lemmas.List.{length_push}
+use Rattle.std.proofs.lemmas.Iterator.Adapters.{YieldsList-from_rev_slice}
+use Rattle.std.proofs.lemmas.Iterator.Consumers.{YieldsList-turn, YieldsList-end}
+use Rattle.links.proofs.Climbs.{Climbing, turn, climbing_end}
 use Rattle.links.proofs.climbing.climb.Goals as goal
 
-pub loop-n-init : goal.loop-n-init
-loop-n-init g c = climbing_start (g.K.Kind.meaning c.args.kind.now) c.args.flip c.args.cells.now c.args.pool.now c.args.low c.args.right c.args.top c.requires.holds c.requires.climbs
-
 pub raise-x-requires : goal.raise-x-requires
-raise-x-requires g c = record {
-  above = above (g.K.Kind.meaning c.args.kind.now) c.args.flip c.args.cells.now c.args.pool.now c.args.low c.args.right c.args.top c.requires.holds c.args.table.now c.requires.tabled c.loop-n.cells c.loop-n.pool c.loop-n.x c.loop-n.n (c.loop-n.n - 1) (omega (arith, c.loop-n-test.true)) c.loop-n.invariant;
-  inside = is_inside (g.K.Kind.meaning c.args.kind.now) c.args.flip c.args.cells.now c.args.pool.now c.args.low c.args.right c.args.top c.requires.holds c.args.table.now c.requires.tabled c.loop-n.cells c.loop-n.pool c.loop-n.x c.loop-n.n (c.loop-n.n - 1) (omega (arith, c.loop-n-test.true)) c.loop-n.invariant c.loop-n.auto.cells;
-  sits = raised_sits (g.K.Kind.meaning c.args.kind.now) c.args.flip c.args.cells.now c.args.pool.now c.args.low c.args.right c.args.top c.requires.holds c.args.table.now c.requires.tabled c.loop-n.cells c.loop-n.pool c.loop-n.x c.loop-n.n (c.loop-n.n - 1) (omega (arith, c.loop-n-test.true)) c.loop-n.invariant;
-  some = free_left (g.K.Kind.meaning c.args.kind.now) c.args.flip c.args.cells.now c.args.pool.now c.args.low c.args.right c.args.top c.requires.holds c.args.table.now c.requires.tabled c.loop-n.cells c.loop-n.pool c.loop-n.x c.loop-n.n (c.loop-n.n - 1) (omega (arith, c.loop-n-test.true)) c.loop-n.invariant c.requires.some;
-}
+raise-x-requires g c =
+    let at = YieldsList-turn (YieldsList-from_rev_slice c.args.path.now.items cc) c.loop-i.yielded _ c.loop-i.yielded_by _ _ c.in-Some.field-0 c.in-Some.is c.next.ensures.steps in
+    let t = turn c.requires.holds c.requires.tabled c.loop-i.invariant c.in-Some.field-0.now at in
+    record { above = t.above; inside = t.inside c.loop-i.auto.cells; sits = t.sits; some = t.some c.requires.some }
 
-pub loop-n-preserved : goal.loop-n-preserved
-loop-n-preserved g c = climbing_more (g.K.Kind.meaning c.args.kind.now) c.args.flip c.args.cells.now c.args.pool.now c.args.low c.args.right c.args.top c.requires.holds c.args.table.now c.requires.tabled c.loop-n.cells c.loop-n.pool c.loop-n.x c.loop-n.n (c.loop-n.n - 1) (omega (arith, c.loop-n-test.true)) c.loop-n.invariant c.raise-x.new.cells c.raise-x.new.pool c.raise-x.result c.raise-x.ensures
+pub loop-i-preserved : goal.loop-i-preserved
+loop-i-preserved g c =
+    let at = YieldsList-turn (YieldsList-from_rev_slice c.args.path.now.items cc) c.loop-i.yielded _ c.loop-i.yielded_by _ _ c.in-Some.field-0 c.in-Some.is c.next.ensures.steps in
+    let t = turn c.requires.holds c.requires.tabled c.loop-i.invariant c.in-Some.field-0.now at in
+    let e = length_push c.loop-i.yielded c.in-Some.field-0 in
+    subst (Climbing (g.K.Kind.meaning c.args.kind.now) c.args.flip c.args.cells.now c.args.pool.now c.args.low c.args.right c.args.path.now.items c.raise-x.new.cells c.raise-x.new.pool c.raise-x.result) (sym e)
+    (t.next c.raise-x.new.cells c.raise-x.new.pool c.raise-x.result c.raise-x.ensures)
 
 pub returns : goal.returns
-returns g c = climbing_end (g.K.Kind.meaning c.args.kind.now) c.args.flip c.args.cells.now c.args.pool.now c.args.low c.args.right c.args.top c.requires.holds c.loop-n.cells c.loop-n.pool c.loop-n.x c.loop-n.n c.loop-n-test.false c.loop-n.invariant
+returns g c =
+    let all = YieldsList-end (YieldsList-from_rev_slice c.args.path.now.items cc) c.loop-i.yielded _ c.loop-i.yielded_by _ _ c.in-None.is c.next.ensures.steps in
+    climbing_end c.requires.holds c.requires.tabled c.loop-i.invariant all.1

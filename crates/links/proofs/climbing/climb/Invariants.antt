@@ -1,8 +1,6 @@
+use Rattle.std.proofs.Common.{length}
 use Rattle.links.proofs.Climbs.{Climbing}
 use Rattle.links.proofs.climbing.climb.Given as goal
 
-abbrev pub invariant-loop-n : goal.invariant-loop-n
-invariant-loop-n g l = Climbing (g.K.Kind.meaning l.kind) l.flip l.initial.cells l.initial.pool l.low l.right l.top l.cells l.pool l.x l.n
-
-abbrev pub decreases-loop-n : goal.decreases-loop-n
-decreases-loop-n g l = l.n
+abbrev pub invariant-loop-i : goal.invariant-loop-i
+invariant-loop-i g l = Climbing (g.K.Kind.meaning l.kind) l.flip l.fn.cells l.fn.pool l.low l.right l.path.items l.cells l.pool l.x (length l.yielded)

@@ -4,38 +4,48 @@ use Rattle.links.proofs.hanging.hang.Goals as goal
 
 pub sink-foot-requires : goal.sink-foot-requires
 sink-foot-requires g c = record {
+  empty = c.new-path.ensures;
   sound = c.requires.holds.arena.sound;
-  live = (x_live (g.K.Kind.meaning c.args.kind.now) c.args.flip c.args.cells.now c.args.pool.now c.args.left c.args.right c.args.item c.requires.holds c.requires.linkable c.requires.heavy, y_live (g.K.Kind.meaning c.args.kind.now) c.args.flip c.args.cells.now c.args.pool.now c.args.left c.args.right c.args.item c.requires.holds c.requires.linkable c.requires.heavy);
-  few = (x_few (g.K.Kind.meaning c.args.kind.now) c.args.flip c.args.cells.now c.args.pool.now c.args.left c.args.right c.args.item c.requires.holds c.requires.linkable c.requires.heavy, y_few (g.K.Kind.meaning c.args.kind.now) c.args.flip c.args.cells.now c.args.pool.now c.args.left c.args.right c.args.item c.requires.holds c.requires.linkable c.requires.heavy);
-  deep = deep (g.K.Kind.meaning c.args.kind.now) c.args.flip c.args.cells.now c.args.pool.now c.args.left c.args.right c.args.item c.requires.holds c.requires.linkable c.requires.heavy;
+  live = (
+    x_live c.args.flip c.args.item c.requires.holds c.requires.linkable c.requires.heavy,
+    y_live c.args.flip c.args.item c.requires.holds c.requires.linkable c.requires.heavy,
+  );
+  few = (
+    x_few c.args.flip c.args.item c.requires.holds c.requires.linkable c.requires.heavy,
+    y_few c.args.flip c.args.item c.requires.holds c.requires.linkable c.requires.heavy,
+  );
+  deep = deep c.args.flip c.args.item c.requires.holds c.requires.linkable c.requires.heavy;
 }
 
 pub retain-requires : goal.retain-requires
 retain-requires g c = record {
-  holds = (c.args.pool.now, room (g.K.Kind.meaning c.args.kind.now) c.args.flip c.args.cells.now c.args.pool.now c.args.left c.args.right c.args.item c.requires.holds c.requires.linkable c.requires.heavy);
-  live = foot_live (g.K.Kind.meaning c.args.kind.now) c.args.flip c.args.cells.now c.args.pool.now c.args.left c.args.right c.args.item c.requires.holds c.requires.linkable c.requires.heavy c.sink-foot.new.table c.sink-foot.result c.sink-foot.ensures;
+  holds = (c.args.pool.now, room c.args.flip c.args.item c.requires.holds c.requires.linkable c.requires.heavy);
+  live = foot_live c.args.flip c.args.item c.requires.holds c.requires.linkable c.requires.heavy c.sink-foot.ensures;
 }
 
 pub make_facing-low-requires : goal.make_facing-low-requires
 make_facing-low-requires g c = record {
-  owned = (c.args.right ∷ c.requires.holds.rest, arena_b (g.K.Kind.meaning c.args.kind.now) c.args.flip c.args.cells.now c.args.pool.now c.args.left c.args.right c.args.item c.requires.holds c.requires.linkable c.requires.heavy c.sink-foot.new.table c.sink-foot.result c.sink-foot.ensures c.retain.new.cells c.retain.ensures.retains);
-  fits = fits_b (g.K.Kind.meaning c.args.kind.now) c.args.flip c.args.cells.now c.args.pool.now c.args.left c.args.right c.args.item c.requires.holds c.requires.linkable c.requires.heavy c.sink-foot.new.table c.sink-foot.result c.sink-foot.ensures c.retain.new.cells c.retain.ensures.retains c.requires.whole;
+  owned = (c.args.right ∷ c.requires.holds.rest, arena_b c.args.flip c.args.item c.requires.holds c.requires.linkable c.requires.heavy c.sink-foot.ensures c.retain.ensures.retains);
+  fits = fits_b c.args.flip c.args.item c.requires.holds c.requires.linkable c.requires.heavy c.sink-foot.ensures c.retain.ensures.retains c.requires.whole;
   some = omega (arith, c.requires.some);
 }
 
 pub climb-r-requires : goal.climb-r-requires
 climb-r-requires g c = record {
-  holds = holds_c (g.K.Kind.meaning c.args.kind.now) c.args.flip c.args.cells.now c.args.pool.now c.args.left c.args.right c.args.item c.requires.holds c.requires.linkable c.requires.heavy c.sink-foot.new.table c.sink-foot.result c.sink-foot.ensures c.retain.new.cells c.retain.ensures.retains c.make_facing-low.new.cells c.make_facing-low.new.pool c.make_facing-low.result c.make_facing-low.ensures.yields;
-  tabled = tabled_c (g.K.Kind.meaning c.args.kind.now) c.args.flip c.args.cells.now c.args.pool.now c.args.left c.args.right c.args.item c.requires.holds c.requires.linkable c.requires.heavy c.sink-foot.new.table c.sink-foot.result c.sink-foot.ensures c.retain.new.cells c.retain.ensures.retains c.make_facing-low.new.cells c.make_facing-low.new.pool c.make_facing-low.result c.make_facing-low.ensures.yields;
-  climbs = climbs_c (g.K.Kind.meaning c.args.kind.now) c.args.flip c.args.cells.now c.args.pool.now c.args.left c.args.right c.args.item c.requires.holds c.requires.linkable c.requires.heavy c.sink-foot.new.table c.sink-foot.result c.sink-foot.ensures c.retain.new.cells c.retain.ensures.retains c.make_facing-low.new.cells c.make_facing-low.new.pool c.make_facing-low.result c.make_facing-low.ensures.yields;
-  some = some_c (g.K.Kind.meaning c.args.kind.now) c.args.flip c.args.cells.now c.args.pool.now c.args.left c.args.right c.args.item c.requires.holds c.requires.linkable c.requires.heavy c.sink-foot.new.table c.sink-foot.result c.sink-foot.ensures c.retain.new.cells c.retain.ensures.retains c.make_facing-low.new.cells c.make_facing-low.new.pool c.make_facing-low.result c.make_facing-low.ensures.yields c.requires.some;
+  holds = holds_c c.args.flip c.args.item c.requires.holds c.requires.linkable c.requires.heavy c.sink-foot.ensures c.retain.ensures.retains c.make_facing-low.ensures.yields;
+  tabled = tabled_c c.args.flip c.args.item c.requires.holds c.requires.linkable c.requires.heavy c.sink-foot.ensures c.retain.ensures.retains c.make_facing-low.ensures.yields;
+  climbs = climbs_c c.args.flip c.args.item c.requires.holds c.requires.linkable c.requires.heavy c.sink-foot.ensures c.retain.ensures.retains c.make_facing-low.ensures.yields;
+  some = some_c c.args.flip c.args.item c.requires.holds c.requires.linkable c.requires.heavy c.sink-foot.ensures c.retain.ensures.retains c.make_facing-low.ensures.yields c.requires.some;
 }
 
 pub release-requires : goal.release-requires
 release-requires g c = record {
-  owned = (c.climb-r.result ∷ c.requires.holds.rest, arena_d (g.K.Kind.meaning c.args.kind.now) c.args.flip c.args.cells.now c.args.pool.now c.args.left c.args.right c.args.item c.requires.holds c.requires.linkable c.requires.heavy c.sink-foot.new.table c.sink-foot.result c.sink-foot.ensures c.retain.new.cells c.retain.ensures.retains c.make_facing-low.new.cells c.make_facing-low.new.pool c.make_facing-low.result c.make_facing-low.ensures.yields c.climb-r.new.cells c.climb-r.new.pool c.climb-r.result c.climb-r.ensures);
-  few = few_d (g.K.Kind.meaning c.args.kind.now) c.args.flip c.args.cells.now c.args.pool.now c.args.left c.args.right c.args.item c.requires.holds c.requires.linkable c.requires.heavy c.sink-foot.new.table c.sink-foot.result c.sink-foot.ensures c.retain.new.cells c.retain.ensures.retains c.make_facing-low.new.cells c.make_facing-low.new.pool c.make_facing-low.result c.make_facing-low.ensures.yields c.climb-r.new.cells c.climb-r.new.pool c.climb-r.result c.climb-r.ensures;
+  owned = (
+    c.climb-r.result ∷ c.requires.holds.rest,
+    arena_d c.args.flip c.args.item c.requires.holds c.requires.linkable c.requires.heavy c.sink-foot.ensures c.retain.ensures.retains c.make_facing-low.ensures.yields c.climb-r.ensures,
+  );
+  few = few_d c.args.flip c.args.item c.requires.holds c.requires.linkable c.requires.heavy c.sink-foot.ensures c.retain.ensures.retains c.make_facing-low.ensures.yields c.climb-r.ensures;
 }
 
 pub returns : goal.returns
-returns g c = hangs (g.K.Kind.meaning c.args.kind.now) c.args.flip c.args.cells.now c.args.pool.now c.args.left c.args.right c.args.item c.requires.holds c.requires.linkable c.requires.heavy c.sink-foot.new.table c.sink-foot.result c.sink-foot.ensures c.retain.new.cells c.retain.ensures.retains c.make_facing-low.new.cells c.make_facing-low.new.pool c.make_facing-low.result c.make_facing-low.ensures.yields c.climb-r.new.cells c.climb-r.new.pool c.climb-r.result c.climb-r.ensures c.release.new.cells c.release.new.pool c.release.ensures
+returns g c = hangs c.args.flip c.args.item c.requires.holds c.requires.linkable c.requires.heavy c.sink-foot.ensures c.retain.ensures.retains c.make_facing-low.ensures.yields c.climb-r.ensures c.release.ensures

@@ -3,47 +3,47 @@ use Rattle.links.proofs.Wholes.{x_fits, y_fits, holds_turned, linkable_turned, r
 use Rattle.links.proofs.linking.link.Goals as goal
 
 pub overflow_add-before : goal.overflow_add-before
-overflow_add-before g c = let fits = x_fits (g.K.Kind.meaning c.args.kind.now) c.args.cells.now c.args.pool.now c.args.left c.args.right c.args.item c.requires.holds c.requires.linkable in omega (arith, c.count_at-before.ensures)
+overflow_add-before g c = let fits = x_fits c.args.item c.requires.holds c.requires.linkable in omega (arith, c.count_at-before.ensures)
 
 pub overflow_add-behind : goal.overflow_add-behind
-overflow_add-behind g c = let fits = y_fits (g.K.Kind.meaning c.args.kind.now) c.args.cells.now c.args.pool.now c.args.left c.args.right c.args.item c.requires.holds c.requires.linkable in omega (arith, c.count_at-behind.ensures)
+overflow_add-behind g c = let fits = y_fits c.args.item c.requires.holds c.requires.linkable in omega (arith, c.count_at-behind.ensures)
 
 pub hang-requires : goal.hang-requires
 hang-requires g c = record {
   holds = c.requires.holds;
   linkable = c.requires.linkable;
-  heavy = right_heavy_is (g.K.Kind.meaning c.args.kind.now) c.args.cells.now c.args.pool.now c.args.left c.args.right c.args.item c.requires.holds c.requires.linkable c.count_at-before.result c.count_at-behind.result c.count_at-before.ensures c.count_at-behind.ensures c.outweighs.result c.outweighs.ensures c.if-outweighs.true;
+  heavy = right_heavy_is c.args.item c.requires.holds c.requires.linkable c.count_at-before.ensures c.count_at-behind.ensures c.outweighs.ensures c.if-outweighs.true;
   whole = c.requires.whole;
-  some = right_some (g.K.Kind.meaning c.args.kind.now) c.args.cells.now c.args.pool.now c.args.left c.args.right c.args.item c.requires.holds c.requires.linkable c.count_at-before.result c.count_at-behind.result c.count_at-before.ensures c.count_at-behind.ensures c.outweighs.result c.outweighs.ensures c.if-outweighs.true c.requires.some;
+  some = right_some c.args.item c.requires.holds c.requires.linkable c.count_at-before.ensures c.count_at-behind.ensures c.outweighs.ensures c.if-outweighs.true c.requires.some;
 }
 
 pub hang-requires-then-outweighs-2 : goal.hang-requires-then-outweighs-2
 hang-requires-then-outweighs-2 g c = record {
-  holds = holds_turned (g.K.Kind.meaning c.args.kind.now) c.args.cells.now c.args.pool.now c.args.left c.args.right c.args.item c.requires.holds c.requires.linkable;
-  linkable = linkable_turned (g.K.Kind.meaning c.args.kind.now) c.args.cells.now c.args.pool.now c.args.left c.args.right c.args.item c.requires.holds c.requires.linkable;
-  heavy = left_heavy_is (g.K.Kind.meaning c.args.kind.now) c.args.cells.now c.args.pool.now c.args.left c.args.right c.args.item c.requires.holds c.requires.linkable c.count_at-before.result c.count_at-behind.result c.count_at-before.ensures c.count_at-behind.ensures c.outweighs.result c.outweighs.ensures c.outweighs-2.result c.outweighs-2.ensures c.if-outweighs-2.true;
+  holds = holds_turned c.args.item c.requires.holds c.requires.linkable;
+  linkable = linkable_turned c.args.item c.requires.holds c.requires.linkable;
+  heavy = left_heavy_is c.args.item c.requires.holds c.requires.linkable c.count_at-before.ensures c.count_at-behind.ensures c.outweighs.ensures c.outweighs-2.ensures c.if-outweighs-2.true;
   whole = c.requires.whole;
-  some = left_some (g.K.Kind.meaning c.args.kind.now) c.args.cells.now c.args.pool.now c.args.left c.args.right c.args.item c.requires.holds c.requires.linkable c.count_at-before.result c.count_at-behind.result c.count_at-before.ensures c.count_at-behind.ensures c.outweighs.result c.outweighs.ensures c.outweighs-2.result c.outweighs-2.ensures c.if-outweighs-2.true c.requires.some;
+  some = left_some c.args.item c.requires.holds c.requires.linkable c.count_at-before.ensures c.count_at-behind.ensures c.outweighs.ensures c.outweighs-2.ensures c.if-outweighs-2.true c.requires.some;
 }
 
 pub make-requires : goal.make-requires
 make-requires g c = record {
   owned = (c.requires.holds.rest, c.requires.holds.arena);
-  fits = even_fits (g.K.Kind.meaning c.args.kind.now) c.args.cells.now c.args.pool.now c.args.left c.args.right c.args.item c.requires.holds c.requires.linkable c.count_at-before.result c.count_at-behind.result c.count_at-before.ensures c.count_at-behind.ensures c.outweighs.result c.outweighs.ensures c.outweighs-2.result c.outweighs-2.ensures c.if-outweighs.false c.if-outweighs-2.false c.requires.whole;
-  some = even_some (g.K.Kind.meaning c.args.kind.now) c.args.cells.now c.args.pool.now c.args.left c.args.right c.args.item c.requires.holds c.requires.linkable c.count_at-before.result c.count_at-behind.result c.count_at-before.ensures c.count_at-behind.ensures c.outweighs.result c.outweighs.ensures c.outweighs-2.result c.outweighs-2.ensures c.if-outweighs.false c.if-outweighs-2.false c.requires.some;
+  fits = even_fits c.args.item c.requires.holds c.requires.linkable c.count_at-before.ensures c.count_at-behind.ensures c.outweighs.ensures c.outweighs-2.ensures c.if-outweighs.false c.if-outweighs-2.false c.requires.whole;
+  some = even_some c.args.item c.requires.holds c.requires.linkable c.count_at-before.ensures c.count_at-behind.ensures c.outweighs.ensures c.outweighs-2.ensures c.if-outweighs.false c.if-outweighs-2.false c.requires.some;
 }
 
 pub returns-then-outweighs : goal.returns-then-outweighs
 returns-then-outweighs g c =
-    let done = linked_right (g.K.Kind.meaning c.args.kind.now) c.args.cells.now c.args.pool.now c.args.left c.args.right c.args.item c.requires.holds c.requires.linkable c.count_at-before.result c.count_at-behind.result c.count_at-before.ensures c.count_at-behind.ensures c.outweighs.result c.outweighs.ensures c.if-outweighs.true c.hang.new.cells c.hang.new.pool c.hang.result c.hang.ensures in
+    let done = linked_right c.args.item c.requires.holds c.requires.linkable c.count_at-before.ensures c.count_at-behind.ensures c.outweighs.ensures c.if-outweighs.true c.hang.ensures in
     record { yields = done.yields; order = done.order }
 
 pub returns-then-outweighs-2 : goal.returns-then-outweighs-2
 returns-then-outweighs-2 g c =
-    let done = linked_left (g.K.Kind.meaning c.args.kind.now) c.args.cells.now c.args.pool.now c.args.left c.args.right c.args.item c.requires.holds c.requires.linkable c.count_at-before.result c.count_at-behind.result c.count_at-before.ensures c.count_at-behind.ensures c.outweighs.result c.outweighs.ensures c.outweighs-2.result c.outweighs-2.ensures c.if-outweighs-2.true c.hang-then-outweighs-2.new.cells c.hang-then-outweighs-2.new.pool c.hang-then-outweighs-2.result c.hang-then-outweighs-2.ensures in
+    let done = linked_left c.args.item c.requires.holds c.requires.linkable c.count_at-before.ensures c.count_at-behind.ensures c.outweighs.ensures c.outweighs-2.ensures c.if-outweighs-2.true c.hang-then-outweighs-2.ensures in
     record { yields = done.yields; order = done.order }
 
 pub returns : goal.returns
 returns g c =
-    let done = linked_even (g.K.Kind.meaning c.args.kind.now) c.args.cells.now c.args.pool.now c.args.left c.args.right c.args.item c.requires.holds c.requires.linkable c.count_at-before.result c.count_at-behind.result c.count_at-before.ensures c.count_at-behind.ensures c.outweighs.result c.outweighs.ensures c.outweighs-2.result c.outweighs-2.ensures c.if-outweighs.false c.if-outweighs-2.false c.make.new.cells c.make.new.pool c.make.result c.make.ensures.yields in
+    let done = linked_even c.args.item c.requires.holds c.requires.linkable c.count_at-before.ensures c.count_at-behind.ensures c.outweighs.ensures c.outweighs-2.ensures c.if-outweighs.false c.if-outweighs-2.false c.make.ensures.yields in
     record { yields = done.yields; order = done.order }

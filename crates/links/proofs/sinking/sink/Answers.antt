@@ -1,20 +1,21 @@
-use Rattle.std.proofs.Common.{◌≡◌, length, rules}
-use Rattle.links.proofs.Sinks.{sinking_start, x_inside, lighter, sinking_more, sunk}
+use Rattle.std.proofs.Common.{arith}
+use Rattle.links.proofs.Sinks.{sinking_start, room, x_inside, lighter, sinking_more, sunk}
 use Rattle.links.proofs.sinking.sink.Goals as goal
 
-pub loop-table-init : goal.loop-table-init
-loop-table-init g c =
-    let size : length c.args.table.now ≡ 64 = search rules in
-    sinking_start (g.K.Kind.meaning c.args.kind.now) c.args.flip c.args.cells.now c.requires.sound c.args.left c.args.right c.requires.live.0 c.args.table.now size c.requires.live.1 c.requires.few.1
+pub loop-path-init : goal.loop-path-init
+loop-path-init g c = sinking_start c.args.flip c.requires.sound c.args.left c.requires.live.0 c.args.right c.requires.live.1 c.requires.few.1 c.requires.empty
 
-pub cell_at-c-requires : goal.cell_at-c-requires
-cell_at-c-requires g c = x_inside (g.K.Kind.meaning c.args.kind.now) c.args.flip c.args.cells.now c.requires.sound c.args.left c.args.right c.requires.live.0 c.requires.deep c.loop-table.table c.loop-table.x c.loop-table.top c.loop-table.invariant c.count_at-light.result c.count_at.result c.count_at-light.ensures c.count_at.ensures c.outweighs.result c.outweighs.ensures c.loop-table-test.true
+pub push-requires : goal.push-requires
+push-requires g c = (omega arith, omega (arith, room c.args.flip c.requires.sound c.args.left c.requires.live.0 c.args.right c.requires.deep c.loop-path.invariant))
 
-pub loop-table-smaller : goal.loop-table-smaller
-loop-table-smaller g c = lighter (g.K.Kind.meaning c.args.kind.now) c.args.flip c.args.cells.now c.requires.sound c.args.left c.args.right c.requires.live.0 c.requires.deep c.loop-table.table c.loop-table.x c.loop-table.top c.loop-table.invariant c.count_at-light.result c.count_at.result c.count_at-light.ensures c.count_at.ensures c.outweighs.result c.outweighs.ensures c.loop-table-test.true c.cell_at-c.result c.cell_at-c.ensures c.near_of-x.result c.near_of-x.ensures
+pub cell_at-requires : goal.cell_at-requires
+cell_at-requires g c = x_inside c.args.flip c.requires.sound c.args.left c.requires.live.0 c.args.right c.requires.deep c.loop-path.invariant c.count_at-light.ensures c.count_at.ensures c.outweighs.ensures c.loop-path-test.true
 
-pub loop-table-preserved : goal.loop-table-preserved
-loop-table-preserved g c = sinking_more (g.K.Kind.meaning c.args.kind.now) c.args.flip c.args.cells.now c.requires.sound c.args.left c.args.right c.requires.live.0 c.requires.deep c.loop-table.table c.loop-table.x c.loop-table.top c.loop-table.invariant c.count_at-light.result c.count_at.result c.count_at-light.ensures c.count_at.ensures c.outweighs.result c.outweighs.ensures c.loop-table-test.true c.cell_at-c.result c.cell_at-c.ensures c.near_of-x.result c.near_of-x.ensures
+pub loop-path-smaller : goal.loop-path-smaller
+loop-path-smaller g c = lighter c.args.flip c.requires.sound c.args.left c.requires.live.0 c.args.right c.requires.deep c.loop-path.invariant c.count_at-light.ensures c.count_at.ensures c.outweighs.ensures c.loop-path-test.true c.cell_at.ensures c.near_of-x.ensures
+
+pub loop-path-preserved : goal.loop-path-preserved
+loop-path-preserved g c = sinking_more c.args.flip c.requires.sound c.args.left c.requires.live.0 c.args.right c.requires.deep c.loop-path.invariant c.count_at-light.ensures c.count_at.ensures c.outweighs.ensures c.loop-path-test.true c.cell_at.ensures c.near_of-x.ensures c.push.ensures.items
 
 pub returns : goal.returns
-returns g c = sunk (g.K.Kind.meaning c.args.kind.now) c.args.flip c.args.cells.now c.requires.sound c.args.left c.args.right c.requires.live.0 c.requires.deep c.loop-table.table c.loop-table.x c.loop-table.top c.loop-table.invariant c.count_at-light.result c.count_at.result c.count_at-light.ensures c.count_at.ensures c.outweighs.result c.outweighs.ensures c.loop-table-test.false
+returns g c = sunk c.args.flip c.requires.sound c.args.left c.requires.live.0 c.args.right c.requires.deep c.loop-path.invariant c.count_at-light.ensures c.count_at.ensures c.outweighs.ensures c.loop-path-test.false

@@ -1,23 +1,15 @@
-use Rattle.splits.proofs.Joins.{joined_none, join_holds, join_linkable, join_some, joined_some}
-use Rattle.cells.specs.Cells.{tree}
-use Rattle.splits.specs.Splitting.{behind}
-use Rattle.splits.proofs.InLists.{joins_lists}
+use Rattle.splits.proofs.Joins.{joined_none, join_linkable, join_some, joined_some}
 use Rattle.splits.proofs.joining.join.Goals as goal
 
-pub link-requires : goal.link-requires
-link-requires g c = record {
-  holds = join_holds (g.K.Kind.meaning c.args.kind.now) c.args.cells.now c.args.pool.now c.args.left c.args.rest c.in-Some.loose c.in-Some.is c.requires.owns c.requires.few c.requires.short c.item_of.result.element c.item_of.ensures.element;
-  linkable = join_linkable (g.K.Kind.meaning c.args.kind.now) c.args.cells.now c.args.pool.now c.args.left c.args.rest c.in-Some.loose c.in-Some.is c.requires.owns c.requires.few c.requires.short c.item_of.result.element c.item_of.ensures.element;
-  whole = c.item_of.ensures.whole;
-  some = join_some (g.K.Kind.meaning c.args.kind.now) c.args.cells.now c.args.pool.now c.args.left c.args.rest c.in-Some.loose c.in-Some.is c.requires.owns c.requires.few c.requires.short c.item_of.result.element c.item_of.ensures.element c.requires.some;
-}
+pub link-requires-clause-linkable : goal.link-requires-clause-linkable
+link-requires-clause-linkable g c =
+    join_linkable (rw c.in-Some.is at c.requires.owns) c.item_of.ensures.element (rw c.in-Some.is at c.requires.few) (rw c.in-Some.is at c.requires.short)
 
-pub returns-in-Some : goal.returns-in-Some
-returns-in-Some g c =
-    let grows = joined_some (g.K.Kind.meaning c.args.kind.now) c.args.cells.now c.args.pool.now c.args.left c.args.rest c.in-Some.loose c.in-Some.is c.requires.owns c.requires.few c.requires.short c.item_of.result.element c.item_of.ensures.element c.link.new.cells c.link.new.pool c.link.result c.link.ensures.yields in
-    record { grows = grows; lists = joins_lists (tree c.link.new.cells c.link.result) (tree c.args.cells.now c.args.left) (behind c.args.cells.now c.args.rest) grows.tree_is }
+pub link-requires-clause-some : goal.link-requires-clause-some
+link-requires-clause-some g c = join_some _ _ _ (rw c.in-Some.is at c.requires.some)
 
-pub returns-in-None : goal.returns-in-None
-returns-in-None g c =
-    let grows = joined_none (g.K.Kind.meaning c.args.kind.now) c.args.cells.now c.args.pool.now c.args.left c.args.rest c.in-None.is in
-    record { grows = grows; lists = joins_lists (tree c.args.cells.now c.args.left) (tree c.args.cells.now c.args.left) (behind c.args.cells.now c.args.rest) grows.tree_is }
+pub returns-in-Some-clause-grows : goal.returns-in-Some-clause-grows
+returns-in-Some-clause-grows g c = rw c.in-Some.is (joined_some (rw c.in-Some.is at c.requires.owns) c.item_of.ensures.element c.link.ensures.yields)
+
+pub returns-in-None-clause-grows : goal.returns-in-None-clause-grows
+returns-in-None-clause-grows g c = rw c.in-None.is (joined_none (g.K.Kind.meaning c.args.kind.now) c.args.cells.now c.args.pool.now c.args.left)

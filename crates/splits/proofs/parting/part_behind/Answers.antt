@@ -1,48 +1,37 @@
-use Rattle.std.proofs.Common.{◌≡◌, ◌<◌, length, Some, None, arith, rules}
-use Rattle.balance.specs.Ways.{span}
-use Rattle.cells.specs.Cells.{shape, tree}
+use Rattle.std.proofs.Common.{arith}
 use Rattle.cells.proofs.Lists.{some_in}
-use Rattle.splits.proofs.Parts.{root_live, root_few, leaves_beyond, holding_tied, holding_inside, asks_behind, leaves_inside}
+use Rattle.splits.proofs.Parts.{root_few, leaves_beyond, asks_behind, leaves_inside}
 use Rattle.splits.proofs.InLists.{leaves_tree}
 use Rattle.splits.proofs.parting.part_behind.Goals as goal
 
-pub width_at-requires : goal.width_at-requires
-width_at-requires g c = record { sound = c.requires.owns.arena.sound; live = root_live (g.K.Kind.meaning c.args.kind.now) (g.K.Kind.laws c.args.kind.now) c.args.cells.now c.args.pool.now c.args.root c.args.place c.requires.owns c.requires.few }
+pub returns-then-place-width-clause-leaves : goal.returns-then-place-width-clause-leaves
+returns-then-place-width-clause-leaves g c =
+    let width = rw c.new-view.ensures at c.width.ensures in
+    leaves_beyond c.requires.owns c.args.place (omega (arith, width, c.if-place-width.true))
 
-pub returns-then-place-width_at : goal.returns-then-place-width_at
-returns-then-place-width_at g c =
-    let leaves = leaves_beyond (g.K.Kind.meaning c.args.kind.now) (g.K.Kind.laws c.args.kind.now) c.args.cells.now c.args.pool.now c.args.root c.args.place c.requires.owns c.requires.few (omega (arith, c.width_at.ensures, c.if-place-width_at.true)) in
-    record { leaves = leaves; lists = leaves_tree (g.K.Kind.meaning c.args.kind.now) c.args.cells.now c.args.place None (tree c.args.cells.now c.args.root) leaves.rest_is }
+pub returns-then-place-width-clause-lists : goal.returns-then-place-width-clause-lists
+returns-then-place-width-clause-lists g c = leaves_tree _ _ (returns-then-place-width-clause-leaves g c)
 
-pub descend-found-requires : goal.descend-found-requires
-descend-found-requires g c = record {
-  sound = c.requires.owns.arena.sound;
-  live = root_live (g.K.Kind.meaning c.args.kind.now) (g.K.Kind.laws c.args.kind.now) c.args.cells.now c.args.pool.now c.args.root c.args.place c.requires.owns c.requires.few;
-  within = omega (arith, c.width_at.ensures, c.if-place-width_at.false);
-  few = root_few (g.K.Kind.meaning c.args.kind.now) (g.K.Kind.laws c.args.kind.now) c.args.cells.now c.args.pool.now c.args.root c.args.place c.requires.owns c.requires.few;
-}
+pub descend-cell-requires-clause-few : goal.descend-cell-requires-clause-few
+descend-cell-requires-clause-few g c = rw c.new-view.ensures (root_few c.requires.owns c.requires.few)
 
 pub cell_at-c-requires : goal.cell_at-c-requires
-cell_at-c-requires g c = some_in c.args.cells.now c.descend-found.result.cell c.descend-found.ensures.walked.cell c.descend-found.ensures.walked.at
+cell_at-c-requires g c =
+    let w = rw c.new-view.ensures at c.descend-cell.ensures.walked in
+    some_in c.args.cells.now c.descend-cell.result.cell w.cell w.at
 
 pub behind_of-requires : goal.behind_of-requires
 behind_of-requires g c =
-    let inside : c.args.place < span (shape (g.K.Kind.meaning c.args.kind.now)) (tree c.args.cells.now c.args.root) = omega (arith, c.width_at.ensures, c.if-place-width_at.false) in
-    let lefts : length c.descend-found.new.lefts ≡ 64 = search rules in
-    let rights : length c.descend-found.new.rights ≡ 64 = search rules in
-    asks_behind (g.K.Kind.meaning c.args.kind.now) (g.K.Kind.laws c.args.kind.now) c.args.cells.now c.args.pool.now c.args.root c.args.place c.requires.owns c.requires.few inside c.requires.some c.descend-found.new.lefts c.descend-found.new.rights lefts rights c.descend-found.result c.descend-found.ensures.walked c.cell_at-c.result c.cell_at-c.ensures
+    let width = rw c.new-view.ensures at c.width.ensures in
+    let w = rw c.new-view.ensures at c.descend-cell.ensures.walked in
+    rw c.as_slice.ensures.value (asks_behind c.requires.owns (g.K.Kind.laws c.args.kind.now) c.requires.few w c.cell_at-c.ensures (omega (arith, width, c.if-place-width.false)) c.requires.some)
 
-pub from_on-requires : goal.from_on-requires
-from_on-requires g c =
-    let inside : c.args.place < span (shape (g.K.Kind.meaning c.args.kind.now)) (tree c.args.cells.now c.args.root) = omega (arith, c.width_at.ensures, c.if-place-width_at.false) in
-    let lefts : length c.descend-found.new.lefts ≡ 64 = search rules in
-    let rights : length c.descend-found.new.rights ≡ 64 = search rules in
-    record { tied = holding_tied (g.K.Kind.meaning c.args.kind.now) (g.K.Kind.laws c.args.kind.now) c.args.cells.now c.args.pool.now c.args.root c.args.place c.requires.owns c.requires.few inside c.requires.some c.descend-found.new.lefts c.descend-found.new.rights lefts rights c.descend-found.result c.descend-found.ensures.walked c.cell_at-c.result c.cell_at-c.ensures c.behind_of.result; inside = holding_inside (g.K.Kind.meaning c.args.kind.now) (g.K.Kind.laws c.args.kind.now) c.args.cells.now c.args.pool.now c.args.root c.args.place c.requires.owns c.requires.few inside c.requires.some c.descend-found.new.lefts c.descend-found.new.rights lefts rights c.descend-found.result c.descend-found.ensures.walked c.cell_at-c.result c.cell_at-c.ensures }
+pub returns-clause-leaves : goal.returns-clause-leaves
+returns-clause-leaves g c =
+    let width = rw c.new-view.ensures at c.width.ensures in
+    let w = rw c.new-view.ensures at c.descend-cell.ensures.walked in
+    let behind = c.behind_of.ensures in
+    leaves_inside c.requires.owns (g.K.Kind.laws c.args.kind.now) c.requires.few w c.cell_at-c.ensures (omega (arith, width, c.if-place-width.false)) (rw c.as_slice.ensures.value at behind.regrown) behind.tied behind.element
 
-pub returns : goal.returns
-returns g c =
-    let inside : c.args.place < span (shape (g.K.Kind.meaning c.args.kind.now)) (tree c.args.cells.now c.args.root) = omega (arith, c.width_at.ensures, c.if-place-width_at.false) in
-    let lefts : length c.descend-found.new.lefts ≡ 64 = search rules in
-    let rights : length c.descend-found.new.rights ≡ 64 = search rules in
-    let leaves = leaves_inside (g.K.Kind.meaning c.args.kind.now) (g.K.Kind.laws c.args.kind.now) c.args.cells.now c.args.pool.now c.args.root c.args.place c.requires.owns c.requires.few inside c.requires.some c.descend-found.new.lefts c.descend-found.new.rights lefts rights c.descend-found.result c.descend-found.ensures.walked c.cell_at-c.result c.cell_at-c.ensures c.behind_of.new.cells c.behind_of.new.pool c.behind_of.result c.behind_of.ensures c.from_on.result c.from_on.ensures.tied c.from_on.ensures.element c.from_on.ensures.root in
-    record { leaves = leaves; lists = leaves_tree (g.K.Kind.meaning c.args.kind.now) c.behind_of.new.cells c.args.place (Some c.from_on.result) (tree c.args.cells.now c.args.root) leaves.rest_is }
+pub returns-clause-lists : goal.returns-clause-lists
+returns-clause-lists g c = leaves_tree _ _ (returns-clause-leaves g c)

@@ -1,12 +1,5 @@
-use Rattle.std.proofs.Common.{arith}
-use Rattle.walks.proofs.Sums.{part_sum, whole_sum}
+use Rattle.walks.proofs.Sums.{part_sum}
 use Rattle.walks.proofs.ranges.piece.Goals as goal
-
-pub returns-then-len-extent : goal.returns-then-len-extent
-returns-then-len-extent g c =
-    let k = g.K.Kind.meaning c.args.kind.now in
-    whole_sum k (g.K.Kind.laws c.args.kind.now) c.args.c.element c.args.from c.args.len c.args.c.own c.requires.owns c.requires.within
-    (omega (arith, c.if-len-extent.true, c.extent.ensures c.requires.lawful))
 
 pub returns-else-len-extent : goal.returns-else-len-extent
 returns-else-len-extent g c =

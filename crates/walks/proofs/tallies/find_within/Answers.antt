@@ -1,15 +1,8 @@
-use Rattle.std.proofs.Common.{◌≡◌, ℕ, ◌/◌, sym, ap, ◌∙◌, subst, arith}
+use Rattle.std.proofs.Common.{◌≡◌, ℕ, ◌/◌, ap, ◌∙◌, subst, arith}
 use Rattle.kinds.specs.Kinds.{Within}
 use Rattle.walks.proofs.Sums.{few_element, part_sum}
-use Rattle.walks.proofs.Halving.{Halved, halved_start, halved_low, halved_high, halved_end}
+use Rattle.walks.proofs.Halving.{Halved, halved_low, halved_high, halved_end}
 use Rattle.walks.proofs.tallies.find_within.Goals as goal
-
-pub loop-len-init : goal.loop-len-init
-loop-len-init g c =
-    let k = g.K.Kind.meaning c.args.kind.now in
-    let tally = g.K.Tally.tallied c.args.kind.now in
-    subst (λ (n : ℕ). Halved k tally (k.atoms c.args.element) c.args.t 0 n c.args.t) (sym (c.extent-len.ensures c.requires.lawful))
-    (halved_start k (g.K.Kind.laws c.args.kind.now) tally c.requires.adds (k.atoms c.args.element) c.args.t c.requires.below)
 
 pub loop-len-preserved-then-rest-tally : goal.loop-len-preserved-then-rest-tally
 loop-len-preserved-then-rest-tally g c =

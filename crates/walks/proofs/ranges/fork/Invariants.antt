@@ -1,9 +1,0 @@
-use Rattle.cells.specs.Cells.{cell_count}
-use Rattle.walks.proofs.Summing.{ForkAt}
-use Rattle.walks.proofs.ranges.fork.Given as goal
-
-abbrev pub invariant-loop-at : goal.invariant-loop-at
-invariant-loop-at g l = ForkAt (g.K.Kind.meaning l.kind) l.cells l.root l.from l.len l.cell l.at
-
-abbrev pub decreases-loop-at : goal.decreases-loop-at
-decreases-loop-at g l = cell_count l.cells l.cell
