@@ -1,12 +1,13 @@
 -- Levels of samples that come one by one, or block by block.
-use Rattle.std.proofs.Common.{◌≡◌, ℕ, zero, suc, ◌+◌, ◌-◌, ◌<◌, ◌≤◌, min, List, [], ◌∷◌, ◌++◌, length, get_or, take, drop, ℤ, pos, sym, refl, ap, ◌∙◌, arith, length-drop, length-take, w16, SFits}
+use Rattle.std.proofs.Common.{◌≡◌, ℕ, ◌+◌, ◌-◌, ◌^◌, ◌<◌, ◌≤◌, min, List, [], ◌∷◌, ◌++◌, length, get_or, take, drop, ℤ, pos, sym, refl, ap, ◌∙◌, arith, length-drop, length-take, w16, SFits}
 use Rattle.std.specs.List.{AllByRecursion}
 use Rattle.std.proofs.ByRecursion.{All-take, All-drop}
-use Rattle.std.proofs.lemmas.List.{take_more}
+use Rattle.std.proofs.lemmas.List.{take_min, take_more}
 use Rattle.kinds.specs.Kinds.{total}
-use Rattle.reels.specs.Samples.{stretch}
+use Rattle.reels.specs.Samples.{Bounds, stretch}
 use Rattle.reels.proofs.Copies.{stretch_both}
 use Rattle.audio.specs.Audio.{one_sample, joined_levels, audio}
+use Rattle.audio.specs.declared.levels.Levels.{Levels}
 use Rattle.audio.specs.Levels.{measured, none_left, none_right, assoc}
 
 -- the levels of samples do not depend on the reel that has them
@@ -27,11 +28,6 @@ total_more a xs i h p f =
     ∙ ap (joined_levels (total (audio a) (take i xs))) (none_right (one_sample (get_or xs i (pos 0))) f f)
 
 -- a stretch ends where the samples end
-take_min : {X : Type 0} (k : ℕ) (xs : List X) → take (min k (length xs)) xs ≡ take k xs
-take_min zero xs = let e : min 0 (length xs) ≡ 0 = omega arith in rw e
-take_min (suc k) [] = let e : min (suc k) 0 ≡ 0 = omega arith in rw e
-take_min (suc k) (x ∷ xs) = let e : min (suc k) (suc (length xs)) ≡ suc (min k (length xs)) = omega arith in rw e (ap (λ v. x ∷ v) (take_min k xs))
-
 pub stretch_end : (samples : List ℤ) (start n k : ℕ) → n ≡ min k (length samples - start) → stretch samples start n ≡ stretch samples start k
 stretch_end samples start n k h =
     let there : n ≡ min k (length (drop start samples)) = rw length-drop h in
@@ -54,3 +50,18 @@ pub block_more : (samples : List ℤ) (start done n : ℕ) → AllByRecursion (S
 block_more samples start done n h =
     sym (ap (total (audio samples)) (stretch_both samples start done n)
     ∙ total_append samples (stretch samples start done) (stretch samples (start + done) n) (stretch_fits samples start done h) (stretch_fits samples (start + done) n h))
+
+-- The levels of a stretch up to the place `at`, and of the block there: those up to where the next block begins.
+pub block_step : (samples : List ℤ) (start at end : ℕ) → Bounds samples → start ≤ at → at < end → end ≤ length samples → {sum more both : Levels} → sum ≡ total (audio samples) (stretch samples start (min at end - start)) → more ≡ total (audio samples) (stretch samples at (min (end - at) 512)) → (sum.frames + more.frames < 2 ^ 32 → sum.clipped + more.clipped < 2 ^ 32 → both ≡ joined_levels sum more) → both ≡ total (audio samples) (stretch samples start (min (at + 512) end - start))
+block_step samples start at end b begun below within {sum = sum} {more = more} {both = both} p q joined =
+    let done = min at end - start in
+    let n = min (end - at) 512 in
+    let frames = stretch_frames samples start done b.narrow in
+    let clipped = stretch_clipped samples start done b.narrow in
+    let frames_more = stretch_frames samples at n b.narrow in
+    let clipped_more = stretch_clipped samples at n b.narrow in
+    let here : start + (min at end - start) ≡ at = omega arith in
+    let next : (min at end - start) + min (end - at) 512 ≡ min (at + 512) end - start = omega arith in
+    joined (omega (arith, ap (λ l. l.frames) p, ap (λ l. l.frames) q, frames, frames_more, b.few)) (omega (arith, ap (λ l. l.clipped) p, ap (λ l. l.clipped) q, clipped, clipped_more, b.few))
+    ∙ ap (λ s. joined_levels s more) p ∙ ap (joined_levels (total (audio samples) (stretch samples start done))) (q ∙ ap (λ i. total (audio samples) (stretch samples i n)) (sym here))
+    ∙ block_more samples start done n b.narrow ∙ ap (λ k. total (audio samples) (stretch samples start k)) next

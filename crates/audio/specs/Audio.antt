@@ -5,7 +5,12 @@ use Rattle.faults.specs.declared.causes.Cause.{Cause}
 use Rattle.faults.specs.declared.causes.Cause.TheVariants.{NoExtent, PastReel}
 use Rattle.kinds.specs.Kinds.{Meaning}
 use Rattle.audio.specs.declared.clip.Clip.{Clip}
+use Rattle.audio.specs.declared.kind.Audio.{Audio}
 use Rattle.audio.specs.declared.levels.Levels.{Levels}
+
+-- the reel whose stretches are the kind's elements
+abbrev pub audio_reel : {R : Type 0} → Audio R → R
+audio_reel k = k.reel
 
 abbrev pub clip : ℕ → ℕ → Clip
 clip start frames = record { start = start; frames = frames }

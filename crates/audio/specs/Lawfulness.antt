@@ -13,7 +13,7 @@ use Rattle.faults.specs.Numbers.{cause_number}
 use Rattle.reels.specs.Samples.{Bounds}
 use Rattle.kinds.specs.Kinds.{Laws, Lawful, of_numbers, of_part, IsAtom, Tallies, total}
 use Rattle.audio.specs.declared.clip.Clip.{Clip}
-use Rattle.audio.specs.Audio.{clip, clip_samples, one_sample, joined_levels, audio}
+use Rattle.audio.specs.Audio.{clip, clip_made, clip_samples, one_sample, joined_levels, audio}
 use Rattle.audio.specs.Levels.{Measured, measured, at_end_le, none_left, none_right, assoc}
 
 -- an element has a frame and lies within the reel
@@ -30,6 +30,12 @@ made_inside samples a b e false false p q h =
     let start : e.start ≡ a = sym (ap (λ c. c.start) same) in
     let frames : e.frames ≡ b = sym (ap (λ c. c.frames) same) in
     (record { some = omega (arith, eqb-false b 0 p, frames); within = omega (arith, ltb-false (length samples) (a + b) q, start, frames) }, start, frames)
+
+-- the atoms of an element that two numbers make
+pub made_samples : (samples : List ℤ) (a b : ℕ) (e : Clip) → clip_made samples a b ≡ Ok e → clip_samples samples e ≡ take b (drop a samples)
+made_samples samples a b e h =
+    let m = made_inside samples a b e _ _ refl refl h in
+    ap (λ n. take n (drop e.start samples)) m.2 ∙ ap (λ n. take b (drop n samples)) m.1
 
 refused_cause : (samples : List ℤ) (a b : ℕ) (c : Cause) (none past : Bool) → cond none (Err NoExtent) (cond past (Err PastReel) (Ok (clip a b))) ≡ Err c → 1 ≤ cause_number c
 refused_cause samples a b c true past h = let same : c ≡ NoExtent = cc in rw same (omega arith)

@@ -1,10 +1,10 @@
 ghost use Rattle.std.specs.Prelude.{◌≡◌};
-ghost use Rattle.audio.specs.Audio.{audio};
+ghost use Rattle.audio.specs.Audio.{audio, audio_reel};
 ghost use Rattle.audio.specs.Lawfulness.{audio_laws};
 
 use crate::clip::Clip;
 use crate::levels::Levels;
-use crate::measure::{louder, measure, silence};
+use crate::measure::{louder, measure};
 use faults::Cause;
 use kinds::{Kind, Tally};
 use reels::Reel;
@@ -17,7 +17,7 @@ pub struct Audio<R> {
 
 impl<R> Audio<R> {
     pub fn new(reel: R) -> Audio<R>
-        ensures { result.reel ≡ reel }
+        ensures { audio_reel result ≡ reel }
     {
         Audio { reel }
     }
@@ -30,9 +30,9 @@ impl<R: Reel> Kind for Audio<R> {
 
     type Atom = i16;
 
-    ghost meaning = { λ k. audio (R.Reel.samples k.reel) };
+    ghost meaning = { λ k. audio (R.Reel.samples (audio_reel k)) };
 
-    ghost laws = { λ k. audio_laws (R.Reel.samples k.reel) (R.Reel.bounds k.reel) };
+    ghost laws = { λ k. audio_laws (R.Reel.samples (audio_reel k)) (R.Reel.bounds (audio_reel k)) };
 
     // Refuses an element of no frame, then one past the reel's end, and nothing else.
     fn make(&self, a: u32, b: u32) -> Result<Clip, Cause> {
@@ -69,7 +69,7 @@ impl<R: Reel> Kind for Audio<R> {
     }
 
     fn empty(&self) -> Levels {
-        silence()
+        Levels::default()
     }
 
     fn join(&self, s: Levels, t: Levels) -> Levels {

@@ -3,24 +3,13 @@ ghost use Rattle.std.specs.Int.{w16};
 ghost use Rattle.std.specs.List.{AllByRecursion};
 ghost use Rattle.reels.specs.Samples.{stretch};
 ghost use Rattle.kinds.specs.Kinds.{total};
-ghost use Rattle.audio.specs.Audio.{audio, count_at_end, one_sample, no_samples, joined_levels};
+ghost use Rattle.audio.specs.Audio.{audio, count_at_end, joined_levels};
 
 use crate::levels::Levels;
 use reels::Reel;
 
 // How many samples are copied at a time.
 const BLOCK: usize = 512;
-
-pub(crate) fn silence() -> Levels
-    ensures { result ≡ no_samples }
-{
-    Levels {
-        frames: 0,
-        low: 32767,
-        high: -32768,
-        clipped: 0,
-    }
-}
 
 // Two summaries joined, where their numbers fit.
 pub(crate) fn louder(s: Levels, t: Levels) -> Levels
@@ -40,16 +29,12 @@ pub(crate) fn measure<R: Reel>(reel: &R, start: u32, frames: u32) -> Levels
     ensures { result ≡ total (audio (R.samples reel.now)) (stretch (R.samples reel.now) start frames) }
 {
     let mut scratch = [0i16; BLOCK];
-    let mut sum = silence();
-    let mut done = 0;
-    loop {
-        let more = measure_block(reel, start + done, frames - done, &mut scratch);
-        if more.frames == 0 {
-            return sum;
-        }
-        sum = louder(sum, more);
-        done += more.frames;
+    let mut sum = Levels::default();
+    let end = start.saturating_add(frames).min(reel.len());
+    for at in (start..end).step_by(BLOCK) {
+        sum = louder(sum, measure_block(reel, at, end - at, &mut scratch));
     }
+    sum
 }
 
 // The same, for as many frames as fit the scratch block.
@@ -70,8 +55,7 @@ fn levels_of(block: &[i16]) -> Levels
     let mut low = 32767i16;
     let mut high = -32768i16;
     let mut clipped = 0u32;
-    for i in 0..block.len() {
-        let s = block[i];
+    for &s in block {
         low = low.min(s);
         high = high.max(s);
         clipped += at_end(s);

@@ -1,33 +1,34 @@
 -- What is common to all bulk copies of a stretch of samples.
-use Rattle.std.proofs.Common.{◌≡◌, ℕ, zero, suc, ◌+◌, ◌-◌, ◌<◌, ◌≤◌, min, List, [], ◌∷◌, ◌++◌, length, take, drop, ℤ, pos, None, sym, refl, ap, ◌∙◌, arith, length-drop, length-take}
+use Rattle.std.proofs.Common.{◌≡◌, ℕ, zero, suc, ◌+◌, ◌-◌, ◌≤◌, min, List, [], ◌∷◌, ◌++◌, length, get_or, take, drop, ℤ, Some, None, inl, inr, sym, ap, ◌∙◌, arith, length-drop, length-take}
 use Rattle.std.specs.List.{slice_get}
-use Rattle.std.proofs.lemmas.List.{drop-drop, drop-append-le, drop_all, append-nil, append_assoc, take_at, drop_at, take_rest}
-use Rattle.std.proofs.lemmas.Option.{slice_get-get_or}
+use Rattle.std.proofs.Math.Seq.{drop-append-add}
+use Rattle.std.proofs.lemmas.List.{take-append-drop, take-take, drop-take, drop-drop, drop-append-le, drop_all, append-nil, append_assoc, take_at, drop_at, take_more, take_rest, get_or-drop}
+use Rattle.std.proofs.lemmas.Option.{slice_get_cases, slice_get_within, get_or_from_slice_get}
 use borrow.Rule.Slice.PartMut.{put_mid}
 use Rattle.reels.specs.Samples.{Copied, stretch}
-use Rattle.reels.proofs.Lists.{nth_take, nth_drop}
-
--- from the end on there is nothing to copy
-pub copied_none : (samples : List ℤ) (start : ℕ) (block : List ℤ) → length samples ≤ start → Copied samples start block block 0
-copied_none samples start block h = record { count = omega arith; block = refl }
 
 pub length_stretch : (samples : List ℤ) (start n : ℕ) → n ≤ length samples - start → length (stretch samples start n) ≡ n
 length_stretch samples start n h = simp (length-take, length-drop) (omega arith)
 
--- what a stretch has at a place
-pub nth_stretch : (samples : List ℤ) (start n i : ℕ) → i < n → slice_get (stretch samples start n) i ≡ slice_get samples (start + i)
-nth_stretch samples start n i h = nth_take n (drop start samples) i h ∙ nth_drop start samples i
+-- where there is no sample, the samples are over
+pub nth_end : (samples : List ℤ) (i : ℕ) → None ≡ slice_get samples i → length samples ≤ i
+nth_end samples i e =
+    elim (slice_get_cases samples i).1 [
+      | inl w ↦ let some = w.2 in let z : ◌≡◌ {A = ℕ} 0 1 = cc in absurd (omega arith)
+      | inr w ↦ w.0
+    ]
 
--- below the end there is a sample
-pub nth_some : (samples : List ℤ) (i : ℕ) → i < length samples → None ≡ slice_get samples i → ⊥
-nth_some samples i h e = let g = slice_get-get_or samples i (pos 0) h in let z : ◌≡◌ {A = ℕ} 0 1 = cc in omega arith
+-- one sample more of a stretch
+pub stretch_more : (samples : List ℤ) (start i : ℕ) (x : ℤ) → Some x ≡ slice_get samples (start + i) → stretch samples start (i + 1) ≡ stretch samples start i ++ x ∷ []
+stretch_more samples start i x e =
+    let h = slice_get_within samples (start + i) x (sym e) in
+    let here : get_or (drop start samples) i x ≡ x = get_or-drop start samples i x ∙ get_or_from_slice_get samples (start + i) x x (sym e) in
+    take_more (drop start samples) i x (rw length-drop (omega arith)) ∙ ap (λ v. stretch samples start i ++ v ∷ []) here
 
 -- a stretch in two parts
 pub take_both : {X : Type 0} (a b : ℕ) (xs : List X) → take (a + b) xs ≡ take a xs ++ take b (drop a xs)
-take_both zero b xs = let e : 0 + b ≡ b = omega arith in rw e
-take_both (suc a) zero [] = let e : suc a + 0 ≡ suc a = omega arith in rw e
-take_both (suc a) (suc b) [] = let e : suc a + suc b ≡ suc (a + suc b) = omega arith in rw e
-take_both (suc a) b (x ∷ xs) = let e : suc a + b ≡ suc (a + b) = omega arith in rw e (ap (λ v. x ∷ v) (take_both a b xs))
+take_both a b xs =
+    sym (take-append-drop a (take (a + b) xs)) ∙ ap (λ v. v ++ drop a (take (a + b) xs)) (take-take a (a + b) xs (omega arith)) ∙ ap (λ v. take a xs ++ v) (drop-take a b xs)
 
 pub stretch_both : (samples : List ℤ) (start a b : ℕ) → stretch samples start (a + b) ≡ stretch samples start a ++ stretch samples (start + a) b
 stretch_both samples start a b = take_both a b (drop start samples) ∙ ap (λ v. stretch samples start a ++ take b v) (drop-drop a start samples)
@@ -42,9 +43,9 @@ take_over (suc k) (x ∷ xs) ys =
     rw (e, f) (ap (λ v. x ∷ v) (take_over k xs ys))
 
 drop_over : {X : Type 0} (k : ℕ) (xs ys : List X) → length xs ≤ k → drop k (xs ++ ys) ≡ drop (k - length xs) ys
-drop_over k [] ys h = let e : k - 0 ≡ k = omega arith in rw e
-drop_over zero (x ∷ xs) ys h = absurd (omega arith)
-drop_over (suc k) (x ∷ xs) ys h = let e : suc k - suc (length xs) ≡ k - length xs = omega arith in rw e (drop_over k xs ys (omega arith))
+drop_over k xs ys h =
+    let e : k ≡ length xs + (k - length xs) = omega arith in
+    ap (λ m. drop m (xs ++ ys)) e ∙ drop-append-add xs ys (k - length xs)
 
 pub stretch_front : (xs ys : List ℤ) (start k : ℕ) → start ≤ length xs → stretch (xs ++ ys) start k ≡ stretch xs start (min k (length xs - start)) ++ take (k - (length xs - start)) ys
 stretch_front xs ys start k h =

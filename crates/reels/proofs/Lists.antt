@@ -1,7 +1,7 @@
 -- Lists that are made entry by entry, and what stands at a place of one.
-use Rattle.std.proofs.Common.{◌≡◌, ℕ, zero, suc, ◌+◌, ◌<◌, ◌≤◌, min, List, [], ◌∷◌, ◌++◌, map, length, get_or, take, drop, set, Some, None, sym, refl, ap, ◌∙◌, arith, length-take}
+use Rattle.std.proofs.Common.{◌≡◌, ℕ, zero, suc, ◌+◌, ◌<◌, ◌≤◌, min, List, [], ◌∷◌, ◌++◌, map, length, get_or, take, drop, set, sym, refl, ap, ◌∙◌, arith, length-take}
 use Rattle.std.specs.List.{slice_get}
-use Rattle.std.proofs.lemmas.List.{take_all, drop_all, append-nil, take-take, drop-take, take-map, drop-map}
+use Rattle.std.proofs.lemmas.List.{take_all, drop_more, get_or_at, set_at, append_assoc, take-take, drop-take, take-map, drop-map}
 use Rattle.reels.specs.Samples.{cut}
 
 pub nth_take : {X : Type 0} (n : ℕ) (xs : List X) (i : ℕ) → i < n → slice_get (take n xs) i ≡ slice_get xs i
@@ -9,21 +9,6 @@ nth_take zero xs i h = absurd (omega arith)
 nth_take (suc n) [] i h = refl
 nth_take (suc n) (x ∷ xs) zero h = refl
 nth_take (suc n) (x ∷ xs) (suc i) h = nth_take n xs i (omega arith)
-
-pub nth_drop : {X : Type 0} (n : ℕ) (xs : List X) (i : ℕ) → slice_get (drop n xs) i ≡ slice_get xs (n + i)
-nth_drop zero xs i = let e : 0 + i ≡ i = omega arith in rw e
-nth_drop (suc n) [] i = refl
-nth_drop (suc n) (x ∷ xs) i = let e : suc n + i ≡ suc (n + i) = omega arith in rw e (nth_drop n xs i)
-
-pub nth_map_some : {X Y : Type 0} (f : X → Y) (xs : List X) (i : ℕ) (x : X) → slice_get xs i ≡ Some x → slice_get (map f xs) i ≡ Some (f x)
-nth_map_some f [] i x h = cc
-nth_map_some f (y ∷ ys) zero x h = cc
-nth_map_some f (y ∷ ys) (suc i) x h = nth_map_some f ys i x h
-
-pub nth_map_none : {X Y : Type 0} (f : X → Y) (xs : List X) (i : ℕ) → slice_get xs i ≡ None → slice_get (map f xs) i ≡ None
-nth_map_none f [] i h = refl
-nth_map_none f (y ∷ ys) zero h = cc
-nth_map_none f (y ∷ ys) (suc i) h = nth_map_none f ys i h
 
 pub nth_front : {X : Type 0} (xs ys : List X) (i : ℕ) → i < length xs → slice_get (xs ++ ys) i ≡ slice_get xs i
 nth_front [] ys i h = absurd (omega arith)
@@ -56,25 +41,15 @@ stretch_cut xs s n h =
     ∙ ap (drop s) (take-take (s + n) 1073741824 xs few)
     ∙ drop-take s n xs
 
--- One entry more of a list that is written over another.
-pub over_more : {X : Type 0} (new old : List X) (i : ℕ) (x : X) → i < length old → slice_get new i ≡ Some x → set (take i new ++ drop i old) i x ≡ take (i + 1) new ++ drop (i + 1) old
-over_more [] old i x h e = cc
-over_more (y ∷ new) [] i x h e = absurd (omega arith)
-over_more (y ∷ new) (z ∷ old) zero x h e = let same : x ≡ y = cc in ap (λ v. v ∷ old) same
-over_more (y ∷ new) (z ∷ old) (suc i) x h e =
-    let more : suc i + 1 ≡ suc (i + 1) = omega arith in
-    rw more (ap (λ v. y ∷ v) (over_more new old i x (omega arith) e))
-
--- at the end nothing of the old list is left
-pub over_all : {X : Type 0} (new old : List X) (n : ℕ) → length new ≤ n → length old ≤ n → take n new ++ drop n old ≡ new
-over_all new old n a b = ap (λ v. take n new ++ v) (drop_all n old b) ∙ append-nil (take n new) ∙ take_all n new a
-
 pub stretch_map : {X Y : Type 0} (f : X → Y) (xs : List X) (s n : ℕ) → take n (drop s (map f xs)) ≡ map f (take n (drop s xs))
 stretch_map f xs s n = ap (take n) (drop-map f s xs) ∙ take-map f n (drop s xs)
 
 -- beyond what is written, the old list stands
-pub over_next : {X : Type 0} (new old : List X) (i : ℕ) (d : X) → i < length old → i < length new → get_or (take i new ++ drop i old) i d ≡ get_or old i d
-over_next new [] i d h k = absurd (omega arith)
-over_next [] (z ∷ old) i d h k = absurd (omega arith)
-over_next (y ∷ new) (z ∷ old) zero d h k = refl
-over_next (y ∷ new) (z ∷ old) (suc i) d h k = over_next new old i d (omega arith) (omega arith)
+pub over_next : {X : Type 0} (done old : List X) (i : ℕ) (d : X) → length done ≡ i → i < length old → get_or (done ++ drop i old) i d ≡ get_or old i d
+over_next done old i d n h = ap (λ v. get_or (done ++ v) i d) (drop_more old i d h) ∙ get_or_at done (get_or old i d) (drop (i + 1) old) d i n
+
+-- One entry more of what is written over the front of a list.
+pub over_step : {X : Type 0} (done more old : List X) (i : ℕ) (x : X) → length done ≡ i → i < length old → more ≡ done ++ x ∷ [] → set (done ++ drop i old) i x ≡ more ++ drop (i + 1) old
+over_step done more old i x n h e =
+    ap (λ v. set (done ++ v) i x) (drop_more old i x h) ∙ set_at done (get_or old i x) (drop (i + 1) old) x i n
+    ∙ sym (append_assoc done (x ∷ []) (drop (i + 1) old)) ∙ ap (λ v. v ++ drop (i + 1) old) (sym e)

@@ -1,5 +1,5 @@
 -- PCM bytes and the samples that they mean.
-use Rattle.std.proofs.Common.{◌≡◌, ℕ, zero, suc, ◌+◌, ◌*◌, ◌/◌, ◌<◌, List, [], ◌∷◌, length, get_or, take, drop, Some, refl, ap, ◌∙◌, arith, w16, to_z}
+use Rattle.std.proofs.Common.{◌≡◌, ℕ, zero, suc, ◌+◌, ◌*◌, ◌/◌, ◌<◌, List, [], ◌∷◌, ◌++◌, length, get_or, take, drop, Some, refl, ap, ◌∙◌, arith, w16, to_z}
 use Rattle.std.specs.List.{slice_get}
 use Rattle.reels.specs.Pcm.{pairs}
 
@@ -34,3 +34,14 @@ take_pairs (suc n) (low ∷ high ∷ rest) = let e : 2 * suc n ≡ suc (suc (2 *
 
 pub stretch_pairs : (bytes : List ℕ) (s n : ℕ) → take n (drop s (pairs bytes)) ≡ pairs (take (2 * n) (drop (2 * s) bytes))
 stretch_pairs bytes s n = ap (take n) (drop_pairs s bytes) ∙ take_pairs n (drop (2 * s) bytes)
+
+-- one pair more
+pub pairs_more : (bytes : List ℕ) (i : ℕ) → 2 * i + 1 < length bytes → pairs (take (2 * (i + 1)) bytes) ≡ pairs (take (2 * i) bytes) ++ to_z w16 (get_or bytes (2 * i) 0 + get_or bytes (2 * i + 1) 0 * 256) ∷ []
+pairs_more [] i h = absurd (omega arith)
+pairs_more (low ∷ []) i h = absurd (omega arith)
+pairs_more (low ∷ high ∷ rest) zero h = refl
+pairs_more (low ∷ high ∷ rest) (suc i) h =
+    let a : 2 * (suc i + 1) ≡ suc (suc (2 * (i + 1))) = omega arith in
+    let b : 2 * suc i ≡ suc (suc (2 * i)) = omega arith in
+    let c : 2 * suc i + 1 ≡ suc (suc (2 * i + 1)) = omega arith in
+    rw (a, c, b) (ap (λ v. to_z w16 (low + high * 256) ∷ v) (pairs_more rest i (omega arith)))

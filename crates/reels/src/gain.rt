@@ -46,8 +46,8 @@ impl<R: Reel> Reel for Gain<R> {
 fn amplify(block: &mut [i16], n: u16)
     ensures { block.new ≡ map (scaled n) block.old }
 {
-    for i in 0..block.len() {
-        block[i] = scale(block[i], n);
+    for s in block.iter_mut() {
+        *s = scale(*s, n);
     }
 }
 

@@ -3,9 +3,7 @@ ghost use Rattle.reels.specs.Joined.{joined_first, joined_second};
 ghost use Rattle.reels.specs.Keeps.{joined_keeps};
 ghost use Rattle.reels.specs.Samples.{Copied, cut, stretch};
 
-use crate::reel::Reel;
-
-const MOST: u32 = 1073741824;
+use crate::reel::{MOST, Reel, fitting};
 
 // A layer over any two reels: the first followed by the second, ending at the limit.
 #[derive(Clone, Copy, Drop)]
@@ -46,11 +44,10 @@ impl<P: Reel, Q: Reel> Reel for Joined<P, Q> {
     fn copy_to(&self, start: u32, block: &mut [i16]) -> usize
         ensures { Copied (cut (P.Reel.samples (joined_first self.now) ++ Q.Reel.samples (joined_second self.now))) start block.old block.new result }
     {
-        let len = self.len();
-        if start >= len {
+        let n = fitting(self.len(), start, block.len());
+        if n == 0 {
             return 0;
         }
-        let n = ((len - start) as usize).min(block.len());
         copy_both(&self.first, &self.second, start, &mut block[0..n]);
         n
     }

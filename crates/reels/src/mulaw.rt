@@ -3,10 +3,8 @@ ghost use Rattle.reels.specs.Keeps.{mulaw_keeps};
 ghost use Rattle.reels.specs.MuLaw.{decoded, inverted, sign, signed, size, mu_law_bytes, mu_law_samples, mu_law_refusal};
 ghost use Rattle.reels.specs.Samples.{Copied};
 
-use crate::reel::Reel;
+use crate::reel::{MOST, Reel, fitting};
 use faults::ReelFault;
-
-const MOST: usize = 1073741824;
 
 // The sample of each byte.
 const TABLE: [i16; 256] = [
@@ -49,7 +47,7 @@ impl<'a> MuLaw<'a> {
         ensures refusal { MatchResult result (λ _. mu_law_refusal bytes.now ≡ None) (λ f. mu_law_refusal bytes.now ≡ Some f) }
         ensures reel { IfOk result (λ p. (mu_law_bytes p ≡ bytes.now) × (mu_law_samples (mu_law_bytes p) ≡ map decoded bytes.now)) }
     {
-        if bytes.len() > MOST {
+        if bytes.len() > MOST as usize {
             return Err(ReelFault::TooLong);
         }
         Ok(MuLaw { bytes })
@@ -62,7 +60,7 @@ impl<'a> Reel for MuLaw<'a> {
     ghost bounds = { λ s. mulaw_keeps (mu_law_bytes s) };
 
     fn len(&self) -> u32 {
-        self.bytes.len().min(MOST) as u32
+        self.bytes.len().min(MOST as usize) as u32
     }
 
     fn sample(&self, i: u32) -> Option<i16> {
@@ -75,23 +73,23 @@ impl<'a> Reel for MuLaw<'a> {
     fn copy_to(&self, start: u32, block: &mut [i16]) -> usize
         ensures { Copied (mu_law_samples (mu_law_bytes self.now)) start block.old block.new result }
     {
-        let len = self.len();
-        if start >= len {
+        let n = fitting(self.len(), start, block.len());
+        if n == 0 {
             return 0;
         }
-        let n = ((len - start) as usize).min(block.len());
         let from = start as usize;
         expand(&self.bytes[from..from + n], &mut block[0..n]);
         n
     }
 }
 
-// Decodes as many bytes into the block.
+// Decodes as many bytes into the block. The bytes go by index: of what a zip of `iter_mut` writes, a
+// proof knows nothing.
 fn expand(bytes: &[u8], block: &mut [i16])
     requires { length bytes.now ≡ length block.old }
     ensures { block.new ≡ map decoded bytes.now }
 {
-    for i in 0..block.len() {
-        block[i] = decode(bytes[i]);
+    for (i, s) in block.iter_mut().enumerate() {
+        *s = decode(bytes[i]);
     }
 }

@@ -3,10 +3,8 @@ ghost use Rattle.reels.specs.Keeps.{pcm_keeps};
 ghost use Rattle.reels.specs.Pcm.{pairs, pcm_bytes, pcm_samples, pcm_refusal};
 ghost use Rattle.reels.specs.Samples.{Bounds, Copied};
 
-use crate::reel::Reel;
+use crate::reel::{MOST, Reel, fitting};
 use faults::ReelFault;
-
-const MOST: usize = 1073741824;
 
 // A reel of bytes in pairs, the low byte first.
 #[derive(Clone, Copy)]
@@ -23,7 +21,7 @@ impl<'a> Pcm<'a> {
         if bytes.len() % 2 != 0 {
             return Err(ReelFault::OddBytes);
         }
-        if bytes.len() > 2 * MOST {
+        if bytes.len() > 2 * MOST as usize {
             return Err(ReelFault::TooLong);
         }
         Ok(Pcm { bytes })
@@ -36,7 +34,7 @@ impl<'a> Reel for Pcm<'a> {
     ghost bounds = { λ s. pcm_keeps (pcm_bytes s) };
 
     fn len(&self) -> u32 {
-        (self.bytes.len() / 2).min(MOST) as u32
+        (self.bytes.len() / 2).min(MOST as usize) as u32
     }
 
     fn sample(&self, i: u32) -> Option<i16> {
@@ -50,23 +48,23 @@ impl<'a> Reel for Pcm<'a> {
     fn copy_to(&self, start: u32, block: &mut [i16]) -> usize
         ensures { Copied (pcm_samples (pcm_bytes self.now)) start block.old block.new result }
     {
-        let len = self.len();
-        if start >= len {
+        let n = fitting(self.len(), start, block.len());
+        if n == 0 {
             return 0;
         }
-        let n = ((len - start) as usize).min(block.len());
         let from = 2 * start as usize;
         take_pairs(&self.bytes[from..from + 2 * n], &mut block[0..n]);
         n
     }
 }
 
-// Fills the block from as many pairs of bytes.
+// Fills the block from as many pairs of bytes. The bytes go by index: of what a zip of `iter_mut`
+// writes, a proof knows nothing.
 fn take_pairs(bytes: &[u8], block: &mut [i16])
     requires { length bytes.now ≡ 2 * length block.old }
     ensures { block.new ≡ pairs bytes.now }
 {
-    for i in 0..block.len() {
-        block[i] = i16::from_le_bytes([bytes[2 * i], bytes[2 * i + 1]]);
+    for (i, s) in block.iter_mut().enumerate() {
+        *s = i16::from_le_bytes([bytes[2 * i], bytes[2 * i + 1]]);
     }
 }

@@ -1,6 +1,9 @@
-ghost use Rattle.std.specs.Prelude.{◌≡◌, List, length, ℤ};
+ghost use Rattle.std.specs.Prelude.{◌≡◌, ◌-◌, min, List, length, ℤ};
 ghost use Rattle.std.specs.List.{slice_get};
 ghost use Rattle.reels.specs.Samples.{Bounds, Copied};
+
+// The most samples that a reel can have.
+pub(crate) const MOST: u32 = 1073741824;
 
 // A finite list of 16-bit samples, at most 1,073,741,824 of them. Every answer is about that list.
 pub trait Reel {
@@ -20,17 +23,19 @@ pub trait Reel {
     fn copy_to(&self, start: u32, block: &mut [i16]) -> usize
         ensures { Copied (samples self.now) start block.old block.new result }
     {
-        let len = self.len();
-        if start >= len {
-            return 0;
-        }
-        let n = ((len - start) as usize).min(block.len());
-        for i in 0..n {
+        for (i, s) in block.iter_mut().enumerate() {
             match self.sample(start + i as u32) {
-                Some(s) => block[i] = s,
-                None => unreachable(),
+                Some(sample) => *s = sample,
+                None => return i,
             }
         }
-        n
+        block.len()
     }
+}
+
+// How many samples there are from `start` on, of so many, and fit in so much room.
+pub(crate) fn fitting(len: u32, start: u32, room: usize) -> usize
+    ensures { result ≡ min room (len - start) }
+{
+    (len.saturating_sub(start) as usize).min(room)
 }

@@ -1,17 +1,15 @@
 // The C functions: for each of four piles of layers, its levels and its samples as bytes. Writing
-// says how many samples were written; the bytes beyond stay as found.
-ghost use Rattle.std.specs.Prelude.{◌≡◌, ◌++◌, map};
-ghost use Rattle.reels.specs.Gain.{scaled};
-ghost use Rattle.reels.specs.MuLaw.{mu_law_samples};
-ghost use Rattle.reels.specs.Pcm.{pcm_samples};
-ghost use Rattle.reels.specs.Samples.{Written, cut};
+// says how many samples were written; the bytes beyond stay as found. They are eight, since a C
+// function has no type parameter.
+ghost use Rattle.std.specs.Prelude.{◌≡◌};
+ghost use Rattle.reels.specs.Samples.{Written};
 ghost use Rattle.speed.specs.Piles.{held_by, pcm_pile, mu_law_pile, gain_pile, joined_pile};
 ghost use Rattle.speed.specs.Summaries.{levels_of_samples, told};
 
 use crate::summary::Summary;
 use crate::whole::{summary_of, written_of};
 use faults::ReelFault;
-use reels::{Gain, Joined, MuLaw, Pcm};
+use reels::{Gain, MuLaw, Pcm, Reel, piled};
 
 #[unsafe(no_mangle)]
 pub extern "C" fn speed_summary_pcm(bytes: &[u8]) -> Summary
@@ -71,20 +69,7 @@ pub extern "C" fn speed_write_pile(first: &[u8], second: &[u8], n: u16, out: &mu
 
 // PCM under a gain.
 fn gained<'a>(bytes: &'a [u8], n: u16) -> Result<Gain<Pcm<'a>>, ReelFault>
-    ensures { held_by (λ g. map (scaled g.n) (pcm_samples g.below.bytes.now)) result ≡ gain_pile bytes.now n }
+    ensures { held_by ⟦<Gain<Pcm<'a>> as Reel>⟧.samples result ≡ gain_pile bytes.now n }
 {
     Ok(Gain::new(Pcm::new(bytes)?, n))
-}
-
-// PCM and mu-law joined, under a gain.
-fn piled<'a>(
-    first: &'a [u8],
-    second: &'a [u8],
-    n: u16,
-) -> Result<Gain<Joined<Pcm<'a>, MuLaw<'a>>>, ReelFault>
-    ensures { held_by (λ g. map (scaled g.n) (cut (pcm_samples g.below.first.bytes.now ++ mu_law_samples g.below.second.bytes.now))) result ≡ joined_pile first.now second.now n }
-{
-    let pcm = Pcm::new(first)?;
-    let mulaw = MuLaw::new(second)?;
-    Ok(Gain::new(Joined::new(pcm, mulaw), n))
 }

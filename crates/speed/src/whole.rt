@@ -13,15 +13,11 @@ use reels::{Reel, write_out};
 pub(crate) fn summary_of<R: Reel + Copy>(reel: Result<R, ReelFault>) -> Summary
     ensures { result ≡ told (levels_of_samples (held_by R.Reel.samples reel)) }
 {
-    match reel {
-        Ok(reel) => tell(levels_of(reel)),
-        Err(_) => tell(Levels {
-            frames: 0,
-            low: 32767,
-            high: -32768,
-            clipped: 0,
-        }),
-    }
+    let levels = match reel {
+        Ok(reel) => levels_of(reel),
+        Err(_) => Levels::default(),
+    };
+    Summary::from(levels)
 }
 
 pub(crate) fn written_of<R: Reel + Copy>(reel: Result<R, ReelFault>, out: &mut [u8]) -> usize
@@ -42,16 +38,5 @@ fn levels_of<R: Reel + Copy>(reel: R) -> Levels
     match kind.make(0, frames) {
         Ok(all) => kind.summary(all),
         Err(_) => kind.empty(),
-    }
-}
-
-fn tell(s: Levels) -> Summary
-    ensures { result ≡ told s }
-{
-    Summary {
-        frames: s.frames,
-        low: s.low,
-        high: s.high,
-        clipped: s.clipped,
     }
 }

@@ -32,7 +32,7 @@ fn main(rt: HostRuntime) -> anyhow::Result<()> {
 fn run(rt: &HostRuntime) -> anyhow::Result<()> {
     let words = called_with(rt)?;
     match parse(words.as_slice())? {
-        Some(options) => with_first(rt, &options),
+        Some(options) => with_reels(rt, &options),
         None => {
             rt.println(HELP)?;
             Ok(())
@@ -40,34 +40,17 @@ fn run(rt: &HostRuntime) -> anyhow::Result<()> {
     }
 }
 
-fn with_first(rt: &HostRuntime, options: &Options<'_>) -> anyhow::Result<()> {
+fn with_reels(rt: &HostRuntime, options: &Options<'_>) -> anyhow::Result<()> {
     let bytes = read(rt, options.first.path)?;
-    with_second(rt, options, reel_of(options.first, bytes.as_slice())?)
-}
-
-fn with_second<R: Reel + Copy>(
-    rt: &HostRuntime,
-    options: &Options<'_>,
-    first: R,
-) -> anyhow::Result<()> {
+    let first = reel_of(options.first, bytes.as_slice())?;
     match options.chosen.second {
         None => with_gain(rt, options, first),
-        Some(source) => with_joined(rt, options, first, source),
+        Some(source) => {
+            let bytes = read(rt, source.path)?;
+            let second = reel_of(source, bytes.as_slice())?;
+            with_gain(rt, options, Joined::new(first, second))
+        }
     }
-}
-
-fn with_joined<R: Reel + Copy>(
-    rt: &HostRuntime,
-    options: &Options<'_>,
-    first: R,
-    source: Source<'_>,
-) -> anyhow::Result<()> {
-    let bytes = read(rt, source.path)?;
-    with_gain(
-        rt,
-        options,
-        Joined::new(first, reel_of(source, bytes.as_slice())?),
-    )
 }
 
 // The file's bytes as a reel, or an error that names the file, with the refusal's number.

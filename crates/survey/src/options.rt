@@ -17,7 +17,8 @@ pub struct Options<'a> {
     pub chosen: Chosen<'a>,
 }
 
-// The options that have a value.
+// The options that have a value. The bounds of `columns` stand in the clauses below: as ghost fields they would be said
+// a second time, in the invariant of the loop that fills the options in.
 #[derive(Clone, Copy)]
 pub struct Chosen<'a> {
     pub second: Option<Source<'a>>,

@@ -1,46 +1,50 @@
 // Reels of bytes: which bytes are one, and the samples at the ends of the range.
 ghost use Rattle.std.specs.Prelude.{◌≡◌, IfOk};
+ghost use Rattle.reels.specs.MuLaw.{mu_law_bytes};
+ghost use Rattle.reels.specs.Pcm.{pcm_bytes};
 
 use faults::ReelFault;
 use reels::{MuLaw, Pcm, Reel};
 use std::test::Fail;
 
 pub(crate) fn pcm(bytes: &[u8]) -> Result<Pcm<'_>, Fail>
-    ensures { IfOk result (λ p. p.bytes.now ≡ bytes.now) }
+    ensures { IfOk result (λ p. pcm_bytes p ≡ bytes.now) }
 {
-    match Pcm::new(bytes) {
-        Ok(reel) => Ok(reel),
-        Err(fault) => Err(Fail::new(fault)),
-    }
+    Pcm::new(bytes).map_err(Fail::new)
 }
 
 pub(crate) fn mulaw(bytes: &[u8]) -> Result<MuLaw<'_>, Fail>
-    ensures { IfOk result (λ p. p.bytes.now ≡ bytes.now) }
+    ensures { IfOk result (λ m. mu_law_bytes m ≡ bytes.now) }
 {
-    match MuLaw::new(bytes) {
-        Ok(reel) => Ok(reel),
-        Err(fault) => Err(Fail::new(fault)),
-    }
+    MuLaw::new(bytes).map_err(Fail::new)
 }
 
-// The refusal's number, 0 where there is none.
-fn refusal<T: Drop>(made: Result<T, ReelFault>) -> u16 {
-    match made {
-        Ok(_) => 0,
-        Err(fault) => fault.number(),
-    }
+// The refusal's number, where there is one.
+fn refusal<T: Drop>(made: Result<T, ReelFault>) -> Option<u16> {
+    made.err().map(ReelFault::number)
 }
 
 #[test]
 fn only_an_odd_number_of_pcm_bytes_is_refused(rt: HostRuntime) {
     let bytes = [0u8; 5];
-    for (count, number) in [(0usize, 0u16), (1, 19), (2, 0), (3, 19), (4, 0), (5, 19)] {
+    for (count, number) in [
+        (0usize, None),
+        (1, Some(19u16)),
+        (2, None),
+        (3, Some(19)),
+        (4, None),
+        (5, Some(19)),
+    ] {
         assert_eq!(rt;
             refusal(Pcm::new(&bytes[0..count])),
             number,
             "{count} bytes"
         );
-        assert_eq!(rt; refusal(MuLaw::new(&bytes[0..count])), 0, "{count} bytes");
+        assert_eq!(rt;
+            refusal(MuLaw::new(&bytes[0..count])),
+            None,
+            "{count} bytes"
+        );
     }
 }
 

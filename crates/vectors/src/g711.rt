@@ -26,10 +26,15 @@ const PUBLISHED: [[i16; 8]; 16] = [
 
 #[test]
 fn all_256_bytes_decode_to_four_times_the_published_value(rt: HostRuntime) {
-    for n in 0..128u8 {
-        let sample = 4 * i32::from(PUBLISHED[n as usize / 8][n as usize % 8]);
-        assert_eq!(rt; i32::from(decode(255 - n)), sample, "positive, number {n}");
-        assert_eq!(rt; i32::from(decode(127 - n)), -sample, "negative, number {n}");
+    for (n, value) in (0..128u8).zip(PUBLISHED.as_flattened()) {
+        let sample = 4 * i32::from(*value);
+        let signal = 255 - n;
+        assert_eq!(rt; i32::from(decode(signal)), sample, "positive, number {n}");
+        assert_eq!(rt;
+            i32::from(decode(signal & 0x7f)),
+            -sample,
+            "negative, number {n}"
+        );
     }
 }
 
@@ -37,16 +42,16 @@ fn all_256_bytes_decode_to_four_times_the_published_value(rt: HostRuntime) {
 #[test]
 fn a_mulaw_reel_of_all_bytes_answers_as_the_decoder(rt: HostRuntime) -> Result<(), Fail> {
     let mut bytes = [0u8; 256];
-    for b in 0..=255u8 {
-        bytes[b as usize] = b;
+    for (byte, b) in bytes.iter_mut().zip(0..=255u8) {
+        *byte = b;
     }
     let reel = mulaw(&bytes)?;
     let mut block = [7i16; 300];
     assert_eq!(rt; reel.len(), 256);
     assert_eq!(rt; reel.copy_to(0, &mut block), 256);
-    for b in 0..=255u8 {
+    for (b, copied) in (0..=255u8).zip(block.iter()) {
         assert_eq!(rt; reel.sample(u32::from(b)), Some(decode(b)));
-        assert_eq!(rt; block[b as usize], decode(b));
+        assert_eq!(rt; *copied, decode(b));
     }
     assert_eq!(rt; reel.sample(256), None);
     assert_eq!(rt; (block[256], block[299]), (7, 7));

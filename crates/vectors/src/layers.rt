@@ -61,11 +61,12 @@ fn check_samples<R: Reel>(rt: &impl Abort, reel: &R, samples: &[i16]) {
         assert_eq!(rt; reel.sample(i), rest.first().copied(), "sample {i}");
         let mut block = [7i16; 8];
         let n = reel.copy_to(i, &mut block);
-        assert_eq!(rt; n, rest.len().min(8), "copied from {i}");
-        for k in 0..8 {
-            let expected = rest.get(k).copied().unwrap_or(7);
-            assert_eq!(rt; block[k], expected, "copied from {i}, place {k}");
+        let mut expected = [7i16; 8];
+        for (place, sample) in expected.iter_mut().zip(rest) {
+            *place = *sample;
         }
+        assert_eq!(rt; n, rest.len().min(8), "copied from {i}");
+        assert_eq!(rt; block, expected, "copied from {i}");
     }
     assert_eq!(rt; reel.sample(u32::MAX), None);
     assert_eq!(rt; reel.copy_to(u32::MAX, &mut [7i16; 8]), 0);
@@ -98,9 +99,9 @@ fn joined_is_the_first_and_then_the_second(rt: HostRuntime) -> Result<(), Fail> 
 // Asks a reel as long as the limit for its last samples, and beyond.
 fn check_limit<R: Reel>(rt: &impl Abort, reel: &R, last: [i16; 3]) {
     assert_eq!(rt; reel.len(), LIMIT);
-    assert_eq!(rt; reel.sample(LIMIT - 3), Some(last[0]));
-    assert_eq!(rt; reel.sample(LIMIT - 2), Some(last[1]));
-    assert_eq!(rt; reel.sample(LIMIT - 1), Some(last[2]));
+    for (i, sample) in (LIMIT - 3..LIMIT).zip(last) {
+        assert_eq!(rt; reel.sample(i), Some(sample));
+    }
     let mut block = [7i16; 5];
     assert_eq!(rt; reel.copy_to(LIMIT - 3, &mut block), 3);
     assert_eq!(rt; block, [last[0], last[1], last[2], 7, 7]);

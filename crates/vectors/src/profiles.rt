@@ -19,24 +19,20 @@ fn check_pile(
     frames: u32,
     levels: (i16, i16, u32),
 ) -> Result<(), Fail> {
-    match levels_of_pile(&FIRST, &SECOND, n, start, frames) {
-        Ok(s) => {
-            assert_eq!(rt;
-                (s.frames, s.low, s.high, s.clipped),
-                (frames, levels.0, levels.1, levels.2)
-            );
-            Ok(())
-        },
-        Err(_) => Err(Fail::new("refused")),
-    }
+    let s = levels_of_pile(&FIRST, &SECOND, n, start, frames).map_err(|_| Fail::new("refused"))?;
+    assert_eq!(rt;
+        (s.frames, s.low, s.high, s.clipped),
+        (frames, levels.0, levels.1, levels.2)
+    );
+    Ok(())
 }
 
-// The refusal's number and cause.
-fn refusal(made: Result<Levels, SurveyFault>) -> (u16, u16) {
+// The refusal's number, and the cause in it, 0 where it has none.
+fn refusal(made: Result<Levels, SurveyFault>) -> Option<(u16, u16)> {
     match made {
-        Err(SurveyFault::Reel(fault)) => (fault.number(), 0),
-        Err(SurveyFault::Session(fault)) => (fault.number(), fault.cause()),
-        _ => (0, 0),
+        Err(SurveyFault::Reel(fault)) => Some((fault.number(), 0)),
+        Err(SurveyFault::Session(fault)) => Some((fault.number(), fault.cause())),
+        _ => None,
     }
 }
 
@@ -48,19 +44,25 @@ fn levels_at_a_pile_of_layers(rt: HostRuntime) -> Result<(), Fail> {
     check_pile(&rt, 128, 3, 2, (-1, 16062, 0))?;
     assert_eq!(rt;
         refusal(levels_of_pile(&FIRST[0..7], &SECOND, 256, 0, 0)),
-        (19, 0)
+        Some((19, 0))
     );
-    assert_eq!(rt; refusal(levels_of_pile(&FIRST, &SECOND, 256, 7, 0)), (5, 1));
-    assert_eq!(rt; refusal(levels_of_pile(&FIRST, &SECOND, 256, 5, 2)), (5, 2));
+    assert_eq!(rt;
+        refusal(levels_of_pile(&FIRST, &SECOND, 256, 7, 0)),
+        Some((5, 1))
+    );
+    assert_eq!(rt;
+        refusal(levels_of_pile(&FIRST, &SECOND, 256, 5, 2)),
+        Some((5, 2))
+    );
     Ok(())
 }
 
 fn check_columns(rt: &(impl Abort + AllocGlobal), ticks: u32, columns: &[u32]) -> Result<(), Fail> {
     let n = columns.len();
     assert!(rt; n <= 100);
-    let Ok(survey) = survey_of(rt.alloc(), &Tempo, ticks, 3, n as u32) else {
-        return Err(Fail::new("refused"));
-    };
+    let survey = survey_of(rt.alloc(), &Tempo, ticks, 3, n as u32).map_err(|_| Fail::new(
+        "refused",
+    ))?;
     assert_eq!(rt; survey.columns.len(), n);
     for (column, expected) in survey.columns.iter().zip(columns.iter()) {
         assert_eq!(rt;
@@ -84,17 +86,15 @@ fn columns_differ_by_one_at_most(rt: HostRuntime) -> Result<(), Fail> {
 }
 
 // The ticks and units, or the refusal's number and cause.
-fn beats(made: Result<Beats, SessionFault>) -> (u32, u64) {
-    match made {
-        Ok(s) => (s.ticks, s.units),
-        Err(fault) => (u32::from(fault.number()), u64::from(fault.cause())),
-    }
+fn beats(made: Result<Beats, SessionFault>) -> Result<(u32, u64), (u16, u16)> {
+    made.map(|s| (s.ticks, s.units))
+        .map_err(|fault| (fault.number(), fault.cause()))
 }
 
 #[test]
 fn lengths_in_time(rt: HostRuntime) -> Result<(), Fail> {
-    assert_eq!(rt; beats(beats_of(960, 500000)), (960, 480000000));
-    assert_eq!(rt; beats(beats_of(960, 0)), (5, 3));
+    assert_eq!(rt; beats(beats_of(960, 500000)), Ok((960, 480000000)));
+    assert_eq!(rt; beats(beats_of(960, 0)), Err((5, 3)));
     for (frames, text) in [
         (0u32, "0:00:00.00000"),
         (47999, "0:00:00.47999"),

@@ -37,10 +37,9 @@ fn many_samples_are_written_in_order(rt: HostRuntime) -> Result<(), Fail> {
     let reel = Joined::new(Ramp::new(2000), pcm(&[0x34, 0x12])?);
     let mut out = [0xaau8; 2605];
     assert_eq!(rt; write_out(&reel, 700, &mut out), 1301);
-    for i in 0..1300usize {
-        let sample = ((i + 700) % 1000) as i16;
-        let bytes = [out[2 * i], out[2 * i + 1]];
-        assert_eq!(rt; bytes, sample.to_le_bytes(), "sample {i}");
+    for (i, bytes) in (700..2000u32).zip(out.chunks_exact(2)) {
+        let sample = (i % 1000) as i16;
+        assert_eq!(rt; bytes, &sample.to_le_bytes()[..], "sample {i}");
     }
     assert_eq!(rt; [out[2600], out[2601]], [0x34, 0x12]);
     assert_eq!(rt; [out[2602], out[2603], out[2604]], [0xaa; 3]);

@@ -2,5 +2,5 @@ use Rattle.std.proofs.Common.{◌≡◌, ◌++◌, map, take, drop}
 use Rattle.reels.specs.Gain.{scaled}
 use Rattle.reels.proofs.gain.amplify.Given as goal
 
-abbrev pub invariant-loop-i : goal.invariant-loop-i
-invariant-loop-i l = l.block ≡ take l.i (map (scaled l.n) l.initial.block) ++ drop l.i l.initial.block
+abbrev pub invariant-loop-s : goal.invariant-loop-s
+invariant-loop-s l = l.block ≡ map (scaled l.n) (take l.s-index l.initial.block) ++ drop l.s-index l.initial.block

@@ -3,4 +3,4 @@ use Rattle.reels.specs.MuLaw.{decoded}
 use Rattle.reels.proofs.mulaw.expand.Given as goal
 
 abbrev pub invariant-loop-i : goal.invariant-loop-i
-invariant-loop-i l = l.block ≡ take l.i (map decoded l.bytes) ++ drop l.i l.initial.block
+invariant-loop-i l = l.block ≡ map decoded (take l.i l.bytes) ++ drop l.i l.initial.block

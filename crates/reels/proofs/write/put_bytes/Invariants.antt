@@ -3,4 +3,4 @@ use Rattle.reels.specs.Samples.{bytes_of}
 use Rattle.reels.proofs.write.put_bytes.Given as goal
 
 abbrev pub invariant-loop-i : goal.invariant-loop-i
-invariant-loop-i l = l.out ≡ take (2 * l.i) (bytes_of l.block) ++ drop (2 * l.i) l.initial.out
+invariant-loop-i l = l.out ≡ bytes_of (take l.i l.block) ++ drop (2 * l.i) l.initial.out

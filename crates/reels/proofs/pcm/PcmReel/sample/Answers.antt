@@ -1,12 +1,8 @@
-use Rattle.std.proofs.Common.{◌<◌, sym, arith, w16, SFits, rules}
-use Rattle.std.proofs.lemmas.Option.{slice_get_past}
+use Rattle.std.proofs.Common.{◌<◌, arith, w16, SFits, rules}
 use Rattle.std.proofs.lemmas.Int.{to_z-of_z}
 use Rattle.reels.proofs.Lists.{length_cut, nth_cut}
 use Rattle.reels.proofs.Pairs.{length_pairs, nth_pairs}
 use Rattle.reels.proofs.pcm.PcmReel.sample.Goals as goal
-
-pub returns-then-i-len : goal.returns-then-i-len
-returns-then-i-len c = sym (slice_get_past _ c.args.i (omega arith))
 
 pub bounds-self-at : goal.bounds-self-at
 bounds-self-at c = let e = simp (length_cut, length_pairs) at c.len.ensures in omega arith
