@@ -3,14 +3,14 @@ use Rattle.std.proofs.Common.{◌≡◌, ℕ, ◌+◌, ◌^◌, ◌<◌, ◌≤�
 use Rattle.std.proofs.lemmas.Bool.{cases_eq}
 use Rattle.faults.specs.Limits.{limit}
 use Rattle.flat.specs.Refusals.{element_limit}
-use Rattle.kinds.specs.Kinds.{Meaning, Laws, Lawful, total}
+use Rattle.kinds.specs.Kinds.{Meaning, Laws}
 use Rattle.kinds.specs.Places.{extent_of, put_at}
 use Rattle.balance.specs.Trees.{leaf, node, elements}
 use Rattle.balance.specs.Levels.{most}
 use Rattle.cells.specs.declared.cell.Cell.{Cell}
 use Rattle.cells.specs.declared.item.Item.{Item}
 use Rattle.cells.specs.declared.pool.Pool.{Pool}
-use Rattle.cells.specs.Cells.{cell_count, tree}
+use Rattle.cells.specs.Cells.{cell_count, tree, Whole}
 use Rattle.cells.specs.Reach.{hit}
 use Rattle.cells.specs.References.{Arena}
 use Rattle.cells.specs.Moves.{Moved, Fits, Yields, Releases}
@@ -25,7 +25,7 @@ use Rattle.edits.proofs.Roots.{top_count}
 
 -- ---- a cell over two roots i that are no cells
 
-module _ {E A S : Type 0} {k : Meaning E A S} (laws : Laws k) {a : List (Cell E S)} {p : Pool} (owns : Owns k a p [] [] (2 ^ 16)) (i : ℕ) (far : 65535 ≤ i) (item : Item E S) where
+module _ {E A S : Type 0} {k : Meaning E A S} (laws : Laws k) {a : List (Cell E S)} {p : Pool} (owns : Owns k a p [] [] (2 ^ 16)) (i : ℕ) (far : 65535 ≤ i) {item : Item E S} (whole : Whole k item) where
   both_owned : (rs : List ℕ) → Arena k a p rs → Arena k a p (i ∷ i ∷ rs)
   both_owned rs arena = owning_none k a p i far (i ∷ rs) (owning_none k a p i far rs arena)
 
@@ -35,21 +35,21 @@ module _ {E A S : Type 0} {k : Meaning E A S} (laws : Laws k) {a : List (Cell E 
   pub one_owned : Arena k a p (i ∷ i ∷ owns.rest)
   one_owned = both_owned owns.rest owns.arena
 
-  pub one_fits : Lawful k item.element → item.own ≡ total k (k.atoms item.element) → Fits k (tree a i) item (tree a i)
-  one_fits lawful own = subst (λ t. Fits k t item t) (sym empty) (record {
-    lawful = lawful;
-    owns = own;
+  pub one_fits : Fits k (tree a i) item (tree a i)
+  one_fits = subst (λ t. Fits k t item t) (sym empty) (record {
+    lawful = whole.lawful;
+    owns = whole.owns;
     left_light = omega arith;
     right_light = omega arith;
     few = omega arith;
-    short = omega (arith, laws.few item.element lawful);
+    short = omega (arith, laws.few item.element whole.lawful);
   })
 
-  pub makes_one : (b : List (Cell E S)) (q : Pool) (r : ℕ)
-      → ((rs : List ℕ) → Arena k a p (i ∷ i ∷ rs) → Yields k false a p rs b q r (node (tree a i) item.element (tree a i)) 1) → Makes k a p b q r (item.element ∷ []) 1
-  makes_one b q r make = record {
+  pub makes_one : {e : E} → item.element ≡ e → (b : List (Cell E S)) (q : Pool) (r : ℕ)
+      → ((rs : List ℕ) → Arena k a p (i ∷ i ∷ rs) → Yields k false a p rs b q r (node (tree a i) item.element (tree a i)) 1) → Makes k a p b q r (e ∷ []) 1
+  makes_one same b q r make = record {
     each = λ rs arena. (make rs (both_owned rs arena)).moved;
-    listed = ap elements ((make owns.rest one_owned).tree_is ∙ ap (λ t. node t item.element t) empty);
+    listed = ap elements ((make owns.rest one_owned).tree_is ∙ ap (λ t. node t item.element t) empty) ∙ ap (λ x. x ∷ []) same;
   }
 
 -- ---- putting it in

@@ -5,7 +5,7 @@ ghost use Rattle.edits.specs.Edits.{list};
 
 use cells::Cell;
 use kinds::Kind;
-use walks::width_at;
+use walks::View;
 
 // The extent of the list of `root`.
 pub fn extent_at<K: Kind>(kind: &K, cells: &[Cell<K::Element, K::Summary>], root: u32) -> u32
@@ -13,5 +13,5 @@ pub fn extent_at<K: Kind>(kind: &K, cells: &[Cell<K::Element, K::Summary>], root
     requires live { Live cells.now root }
     ensures { result ≡ extent_of (K.meaning kind.now) (list cells.now root) }
 {
-    width_at(kind, cells, root)
+    View::new(kind, cells, root).width()
 }

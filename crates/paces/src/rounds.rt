@@ -14,7 +14,7 @@ use crate::places::Places;
 use cells::{Cell, Pool, count_at, release};
 use edits::{cut, extent_at, put};
 use kinds::Kind;
-use walks::{overview, read};
+use walks::View;
 
 // Puts the list of `clip` in at a place, and tells how many elements there are then.
 fn put_once<K: Kind>(
@@ -126,10 +126,11 @@ pub(crate) fn reads<K: Kind>(
     ensures { result ≡ offsets (K.meaning kind.now) (list cells.now root) rounds }
 {
     let end = extent_at(kind, cells, root) - 1;
+    let view = View::new(kind, cells, root);
     let mut places = Places::new();
     let mut sum = 0u64;
     for _ in 0..rounds {
-        let found = read(kind, cells, root, places.next(end));
+        let found = view.read(places.next(end));
         sum = sum.wrapping_add(found.offset as u64);
     }
     sum
@@ -148,12 +149,13 @@ pub(crate) fn overviews<K: Kind>(
     ensures { result ≡ lengths (K.meaning kind.now) (list cells.now root) rounds }
 {
     let end = extent_at(kind, cells, root) - 1;
+    let view = View::new(kind, cells, root);
     let mut places = Places::new();
     let mut sum = 0u64;
     for _ in 0..rounds {
         let from = places.next(end);
         let len = places.next(end - from) + 1;
-        let s = overview(kind, cells, root, from, len);
+        let s = view.overview(from, len);
         sum = sum.wrapping_add(kind.width(s) as u64);
     }
     sum

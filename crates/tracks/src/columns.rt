@@ -12,7 +12,7 @@ use edits::extent_at;
 use kinds::Kind;
 use profile::in_columns;
 use std::alloc::{AllocError, Global};
-use walks::overview;
+use walks::View;
 
 // The summary of the atoms of a track from one place to another.
 pub fn stretch<K: Kind>(
@@ -31,7 +31,7 @@ pub fn stretch<K: Kind>(
     if from == to {
         kind.empty()
     } else {
-        overview(kind, cells, root, from, to - from)
+        View::new(kind, cells, root).overview(from, to - from)
     }
 }
 

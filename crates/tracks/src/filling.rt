@@ -1,8 +1,7 @@
 ghost use Rattle.std.specs.Prelude.{◌≡◌};
 
-use cells::Cell;
+use cells::{Cell, NONE};
 use kinds::Kind;
-use splits::NONE;
 
 // A cell that is in no tree, to fill memory with that is to be lent.
 pub fn blank<K: Kind>(kind: &K, element: K::Element) -> Cell<K::Element, K::Summary>

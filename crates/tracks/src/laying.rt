@@ -6,11 +6,10 @@ ghost use Rattle.edits.specs.Edits.{list};
 ghost use Rattle.tracks.specs.Laying.{no_room_fault, not_laid, Lays, Refuses, LaysAll};
 
 use crate::piece::{Laid, Piece};
-use cells::{Cell, Pool, count_at, release};
+use cells::{Cell, NONE, Pool, count_at, release};
 use edits::{extent_at, insert};
 use faults::SessionFault;
 use kinds::Kind;
-use splits::NONE;
 
 // Whether anything stands against a list of such an extent and so many elements, with so many cells free before it is
 // made.

@@ -1,4 +1,4 @@
-use Rattle.std.proofs.Common.{length, ap, ◌∙◌, arith}
+use Rattle.std.proofs.Common.{length, ap, arith}
 use Rattle.kinds.specs.Places.{extent_of}
 use Rattle.cells.proofs.Names.{hit_same}
 use Rattle.edits.specs.Edits.{list}
