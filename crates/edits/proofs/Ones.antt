@@ -3,15 +3,15 @@ use Rattle.std.proofs.Common.{◌≡◌, ℕ, ◌+◌, ◌^◌, ◌<◌, ◌≤�
 use Rattle.std.proofs.lemmas.Bool.{cases_eq}
 use Rattle.faults.specs.Limits.{limit}
 use Rattle.flat.specs.Refusals.{element_limit}
-use Rattle.kinds.specs.Kinds.{Meaning, Laws, Lawful, total}
+use Rattle.kinds.specs.Kinds.{Meaning, Laws}
 use Rattle.kinds.specs.Places.{extent_of, put_at}
 use Rattle.balance.specs.Trees.{leaf, node, elements}
 use Rattle.balance.specs.Levels.{most}
 use Rattle.cells.specs.declared.cell.Cell.{Cell}
 use Rattle.cells.specs.declared.item.Item.{Item}
 use Rattle.cells.specs.declared.pool.Pool.{Pool}
-use Rattle.cells.specs.Cells.{cell_count, tree}
-use Rattle.cells.specs.Reach.{hit, Among}
+use Rattle.cells.specs.Cells.{cell_count, tree, Whole}
+use Rattle.cells.specs.Reach.{hit}
 use Rattle.cells.specs.References.{Arena}
 use Rattle.cells.specs.Moves.{Moved, Fits, Yields, Releases}
 use Rattle.cells.proofs.Names.{hit_same}
@@ -21,11 +21,11 @@ use Rattle.cells.proofs.Moving.{moves_then}
 use Rattle.splits.specs.Owning.{Owns}
 use Rattle.edits.specs.Edits.{edit_takes, insert_takes, list, Makes}
 use Rattle.splits.proofs.Nones.{owning_none, none_leaf}
-use Rattle.edits.proofs.Roots.{owned_counts}
+use Rattle.edits.proofs.Roots.{top_count}
 
 -- ---- a cell over two roots i that are no cells
 
-module _ {E A S : Type 0} (k : Meaning E A S) (laws : Laws k) (a : List (Cell E S)) (p : Pool) (owns : Owns k a p [] [] (2 ^ 16)) (i : ℕ) (far : 65535 ≤ i) (item : Item E S) where
+module _ {E A S : Type 0} {k : Meaning E A S} (laws : Laws k) {a : List (Cell E S)} {p : Pool} (owns : Owns k a p [] [] (2 ^ 16)) (i : ℕ) (far : 65535 ≤ i) {item : Item E S} (whole : Whole k item) where
   both_owned : (rs : List ℕ) → Arena k a p rs → Arena k a p (i ∷ i ∷ rs)
   both_owned rs arena = owning_none k a p i far (i ∷ rs) (owning_none k a p i far rs arena)
 
@@ -35,29 +35,29 @@ module _ {E A S : Type 0} (k : Meaning E A S) (laws : Laws k) (a : List (Cell E 
   pub one_owned : Arena k a p (i ∷ i ∷ owns.rest)
   one_owned = both_owned owns.rest owns.arena
 
-  pub one_fits : Lawful k item.element → item.own ≡ total k (k.atoms item.element) → Fits k (tree a i) item (tree a i)
-  one_fits lawful own = subst (λ t. Fits k t item t) (sym empty) (record {
-    lawful = lawful;
-    owns = own;
+  pub one_fits : Fits k (tree a i) item (tree a i)
+  one_fits = subst (λ t. Fits k t item t) (sym empty) (record {
+    lawful = whole.lawful;
+    owns = whole.owns;
     left_light = omega arith;
     right_light = omega arith;
     few = omega arith;
-    short = omega (arith, laws.few item.element lawful);
+    short = omega (arith, laws.few item.element whole.lawful);
   })
 
-  pub makes_one : (b : List (Cell E S)) (q : Pool) (r : ℕ)
-      → ((rs : List ℕ) → Arena k a p (i ∷ i ∷ rs) → Yields k false a p rs b q r (node (tree a i) item.element (tree a i)) 1) → Makes k a p b q r (item.element ∷ []) 1
-  makes_one b q r make = record {
+  pub makes_one : {e : E} → item.element ≡ e → (b : List (Cell E S)) (q : Pool) (r : ℕ)
+      → ((rs : List ℕ) → Arena k a p (i ∷ i ∷ rs) → Yields k false a p rs b q r (node (tree a i) item.element (tree a i)) 1) → Makes k a p b q r (e ∷ []) 1
+  makes_one same b q r make = record {
     each = λ rs arena. (make rs (both_owned rs arena)).moved;
-    listed = ap elements ((make owns.rest one_owned).tree_is ∙ ap (λ t. node t item.element t) empty);
+    listed = ap elements ((make owns.rest one_owned).tree_is ∙ ap (λ t. node t item.element t) empty) ∙ ap (λ x. x ∷ []) same;
   }
 
 -- ---- putting it in
 
-module _ {E A S : Type 0} (k : Meaning E A S) (a : List (Cell E S)) (p : Pool) (root place : ℕ) (e : E)
+module _ {E A S : Type 0} {k : Meaning E A S} {a : List (Cell E S)} {p : Pool} {root : ℕ} (place : ℕ) (e : E)
     (owns : Owns k a p [] (root ∷ []) (2 ^ 15)) (few : length (list a root) < element_limit)
     (short : extent_of k (list a root) + length (k.atoms e) ≤ limit) (some : insert_takes ≤ p.free) where
-  module _ (b : List (Cell E S)) (q : Pool) (one : ℕ) (first : Makes k a p b q one (e ∷ []) 1) where
+  module _ {b : List (Cell E S)} {q : Pool} {one : ℕ} (first : Makes k a p b q one (e ∷ []) 1) where
     moved_b : Moved k a p owns.rest b q (one ∷ []) 1
     moved_b = first.each owns.rest owns.arena
 
@@ -81,7 +81,7 @@ module _ {E A S : Type 0} (k : Meaning E A S) (a : List (Cell E S)) (p : Pool) (
     pub put_some : edit_takes ≤ q.free
     put_some = omega (arith, some, moved_b.free)
 
-    module _ (c : List (Cell E S)) (o : Pool) (r : ℕ) (second : Makes k b q c o r (put_at k place (list b one) (list b root)) edit_takes) where
+    module _ {c : List (Cell E S)} {o : Pool} {r : ℕ} (second : Makes k b q c o r (put_at k place (list b one) (list b root)) edit_takes) where
       moved_c : Moved k b q (one ∷ owns.rest) c o (r ∷ []) edit_takes
       moved_c = second.each (one ∷ owns.rest) moved_b.arena
 
@@ -90,9 +90,8 @@ module _ {E A S : Type 0} (k : Meaning E A S) (a : List (Cell E S)) (p : Pool) (
 
       pub one_few : cell_count c one ≤ most
       one_few =
-          let here : Among (one ∷ r ∷ owns.rest) one = let h = hit_same one in omega arith in
           let same = ap elements (sym (tree_stays b c one (moved_c.stay one (let h = hit_same one in omega arith)))) ∙ first.listed in
-          omega (arith, owned_counts k c o (one ∷ r ∷ owns.rest) one_arena one here, ap length same)
+          omega (arith, top_count one_arena, ap length same)
 
       module _ (d : List (Cell E S)) (w : Pool) (third : (rs : List ℕ) → Arena k c o (one ∷ rs) → Releases k c o rs d w) where
         pub inserts : Makes k a p d w r (put_at k place (e ∷ []) (list a root)) insert_takes

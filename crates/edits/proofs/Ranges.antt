@@ -30,10 +30,18 @@ use Rattle.splits.specs.Splitting.{behind, loose_roots, Grows, Splits}
 use Rattle.edits.specs.Edits.{edit_takes, copy_takes, list, Makes, Cuts}
 use Rattle.splits.proofs.Places.{same_taken, same_without, back_lawful, parted_extents, rest_extents}
 use Rattle.splits.proofs.Merges.{behind_stays}
-use Rattle.edits.proofs.Roots.{both_counts, owned_balanced, owned_lawful, owned_short, owned_counts}
+use Rattle.edits.proofs.Roots.{both_counts, owned_balanced, owned_lawful, owned_short, top_count, wide}
 
-module _ {E A S : Type 0} (k : Meaning E A S) (laws : Laws k) (a : List (Cell E S)) (p : Pool) (root from len : ℕ)
-    (owns : Owns k a p [] (root ∷ []) (2 ^ 16)) (few : length (list a root) ≤ element_limit) where
+-- what copying or cutting a range out of the list of root is given
+pub record Ranging {E A S : Type 0} (k : Meaning E A S) (a : List (Cell E S)) (p : Pool) (root : ℕ) : Type 0 where
+  pub laws : Laws k
+  pub owns : Owns k a p [] (root ∷ []) (2 ^ 16)
+  pub few : length (list a root) ≤ element_limit
+
+abbrev pub ranging : {E A S : Type 0} {k : Meaning E A S} {a : List (Cell E S)} {p : Pool} {root : ℕ} → Laws k → Owns k a p [] (root ∷ []) (2 ^ 16) → length (list a root) ≤ element_limit → Ranging k a p root
+ranging laws owns few = record { laws = laws; owns = owns; few = few }
+
+module _ {E A S : Type 0} {k : Meaning E A S} {a : List (Cell E S)} {p : Pool} {root : ℕ} (at : Ranging k a p root) (from len : ℕ) where
   abbrev T : Tree E
   T = tree a root
 
@@ -44,17 +52,17 @@ module _ {E A S : Type 0} (k : Meaning E A S) (laws : Laws k) (a : List (Cell E 
   abbrev z : Parted E
   z = parted_rest (shape k) s.rest len
 
-  root_owned : Among owns.rest root
-  root_owned = owns.kept root (let h = hit_same root in omega arith)
+  root_owned : Among at.owns.rest root
+  root_owned = at.owns.kept root (let h = hit_same root in omega arith)
 
   T-balanced : Balanced T
-  T-balanced = owned_balanced k a p owns.rest owns.arena root root_owned
+  T-balanced = owned_balanced at.owns.arena root root_owned
 
   T-lawful : AllByRecursion (Lawful k) (elements T)
-  T-lawful = owned_lawful k a p owns.rest owns.arena root root_owned
+  T-lawful = owned_lawful at.owns.arena root root_owned
 
   T-few : count T ≤ element_limit
-  T-few = omega (arith, few, count_length T)
+  T-few = omega (arith, at.few, count_length T)
 
   sound : Sound (count T) s.before s.rest
   sound = parted_sound (shape k) T from T-balanced
@@ -63,12 +71,12 @@ module _ {E A S : Type 0} (k : Meaning E A S) (laws : Laws k) (a : List (Cell E 
   end_sound = parted_rest_sound (shape k) s.rest len sound.rest_balanced
 
   short : span (shape k) s.before + extents (shape k) (listed s.rest) ≤ limit
-  short = omega (arith, parted_extents k laws T from T-lawful, owned_short k a p owns.rest owns.arena root root_owned)
+  short = omega (arith, parted_extents k at.laws T from T-lawful, owned_short at.owns.arena root root_owned, wide k a root)
 
   end_short : extents (shape k) (listed z.rest) ≤ extents (shape k) (listed s.rest)
   end_short =
-      let lawful = subst (AllByRecursion (Lawful k)) (sym (parted_divides (shape k) T from).aft) (back_lawful k laws from (elements T) T-lawful) in
-      omega (arith, rest_extents k laws s.rest len lawful)
+      let lawful = subst (AllByRecursion (Lawful k)) (sym (parted_divides (shape k) T from).aft) (back_lawful k at.laws from (elements T) T-lawful) in
+      omega (arith, rest_extents k at.laws s.rest len lawful)
 
   copy_costs : parted_cost (shape k) T from + parted_rest_cost (shape k) s.rest len ≤ copy_takes
   unfolding taken_cost
@@ -79,7 +87,7 @@ module _ {E A S : Type 0} (k : Meaning E A S) (laws : Laws k) (a : List (Cell E 
   cut_costs = cut_cost_lem (shape k) T from len T-balanced (omega (arith, T-few))
 
   pub first_owns : Owns k a p [] (root ∷ []) (2 ^ 20)
-  first_owns = record { rest = owns.rest; arena = owns.arena; kept = owns.kept; few = omega (arith, owns.few) }
+  first_owns = record { rest = at.owns.rest; arena = at.owns.arena; kept = at.owns.kept; few = omega (arith, at.owns.few) }
 
   pub first_few : count T ≤ most
   first_few = omega (arith, T-few)
@@ -87,22 +95,22 @@ module _ {E A S : Type 0} (k : Meaning E A S) (laws : Laws k) (a : List (Cell E 
   pub first_some : copy_takes ≤ p.free → parted_cost (shape k) T from ≤ p.free
   first_some some = omega (arith, copy_costs)
 
-  module _ (b : List (Cell E S)) (q : Pool) (first : Split E S) (one : Splits k a p [] b q first s (parted_cost (shape k) T from)) where
+  module _ {b : List (Cell E S)} {q : Pool} {first : Split E S} (one : Splits k a p [] b q first s (parted_cost (shape k) T from)) where
     abbrev loose : List ℕ
     loose = loose_roots first.loose
 
-    moved_b : Moved k a p owns.rest b q (first.before ∷ loose) (parted_cost (shape k) T from)
-    moved_b = one.each owns.rest owns.arena
+    moved_b : Moved k a p at.owns.rest b q (first.before ∷ loose) (parted_cost (shape k) T from)
+    moved_b = one.each at.owns.rest at.owns.arena
 
     -- ---- copying: what lies before is given back
 
-    pub before_arena : Arena k b q (first.before ∷ (loose ++ owns.rest))
+    pub before_arena : Arena k b q (first.before ∷ (loose ++ at.owns.rest))
     before_arena = moved_b.arena
 
     pub before_few : cell_count b first.before ≤ most
     before_few = omega (
       arith,
-      owned_counts k b q (first.before ∷ (loose ++ owns.rest)) before_arena first.before (let h = hit_same first.before in omega arith),
+      top_count before_arena,
       count_length (tree b first.before),
       ap count one.before_is,
       sound.before_few,
@@ -110,14 +118,14 @@ module _ {E A S : Type 0} (k : Meaning E A S) (laws : Laws k) (a : List (Cell E 
     )
 
     module _ (c : List (Cell E S)) (o : Pool) (two : (rs : List ℕ) → Arena k b q (first.before ∷ rs) → Releases k b q rs c o) where
-      moved_c : Moved k b q (loose ++ owns.rest) c o [] 0
-      moved_c = (two (loose ++ owns.rest) before_arena).moved
+      moved_c : Moved k b q (loose ++ at.owns.rest) c o [] 0
+      moved_c = (two (loose ++ at.owns.rest) before_arena).moved
 
       behind_c : behind c first.loose ≡ s.rest
-      behind_c = behind_stays b c first.loose (λ i h. moved_c.stay i (omega (arith, occurs_append loose owns.rest i))) ∙ one.rest_is
+      behind_c = behind_stays b c first.loose (λ i h. moved_c.stay i (omega (arith, occurs_append loose at.owns.rest i))) ∙ one.rest_is
 
       pub second_owns : Owns k c o loose [] (2 ^ 19)
-      second_owns = record { rest = owns.rest; arena = moved_c.arena; kept = λ i h. absurd (omega (arith, h)); few = omega (arith, owns.few) }
+      second_owns = record { rest = at.owns.rest; arena = moved_c.arena; kept = λ i h. absurd (omega (arith, h)); few = omega (arith, at.owns.few) }
 
       pub second_few : count (tail (behind c first.loose)) < most
       second_few = omega (arith, ap (λ r. count (tail r)) behind_c, sound.rest_few, T-few)
@@ -131,7 +139,7 @@ module _ {E A S : Type 0} (k : Meaning E A S) (laws : Laws k) (a : List (Cell E 
       pub second_some : copy_takes ≤ p.free → parted_rest_cost (shape k) (behind c first.loose) len ≤ o.free
       second_some some = omega (arith, cost_c, copy_costs, moved_b.free, moved_c.free)
 
-      module _ (d : List (Cell E S)) (w : Pool) (second : Split E S)
+      module _ {d : List (Cell E S)} {w : Pool} {second : Split E S}
           (three : Splits k c o loose d w second (parted_rest (shape k) (behind c first.loose) len) (parted_rest_cost (shape k) (behind c first.loose) len)) where
         abbrev last : List ℕ
         last = loose_roots second.loose
@@ -144,12 +152,12 @@ module _ {E A S : Type 0} (k : Meaning E A S) (laws : Laws k) (a : List (Cell E 
             c o [] 0 (λ rs ar. (two rs ar).moved) loose (λ i. omega arith))
             loose [] (λ i. omega arith) d w (second.before ∷ last) (parted_rest_cost (shape k) (behind c first.loose) len) three.each (second.before ∷ last) (λ i. omega arith)
 
-        arena_d : Arena k d w (last ++ (second.before ∷ owns.rest))
-        arena_d = rerooted k d w (second.before ∷ (last ++ owns.rest)) (moves_d owns.rest owns.arena).arena (last ++ (second.before ∷ owns.rest))
-            (λ i h. omega (arith, occurs_append last owns.rest i, occurs_append last (second.before ∷ owns.rest) i))
+        arena_d : Arena k d w (last ++ (second.before ∷ at.owns.rest))
+        arena_d = rerooted k d w (second.before ∷ (last ++ at.owns.rest)) (moves_d at.owns.rest at.owns.arena).arena (last ++ (second.before ∷ at.owns.rest))
+            (λ i h. omega (arith, occurs_append last at.owns.rest i, occurs_append last (second.before ∷ at.owns.rest) i))
 
         pub last_owns : Owns k d w last [] (2 ^ 20)
-        last_owns = record { rest = second.before ∷ owns.rest; arena = arena_d; kept = λ i h. absurd (omega (arith, h)); few = omega (arith, owns.few) }
+        last_owns = record { rest = second.before ∷ at.owns.rest; arena = arena_d; kept = λ i h. absurd (omega (arith, h)); few = omega (arith, at.owns.few) }
 
         pub last_few : count (tail (behind d second.loose)) ≤ most
         last_few = omega (
@@ -164,7 +172,7 @@ module _ {E A S : Type 0} (k : Meaning E A S) (laws : Laws k) (a : List (Cell E 
           tree_e : tree e second.before ≡ taken (shape k) T from len
           unfolding taken
           tree_e =
-              sym (tree_stays d e second.before ((four (second.before ∷ owns.rest) arena_d).stay second.before (let h = hit_same second.before in omega arith)))
+              sym (tree_stays d e second.before ((four (second.before ∷ at.owns.rest) arena_d).stay second.before (let h = hit_same second.before in omega arith)))
               ∙ three.before_is ∙ ap (λ r. (parted_rest (shape k) r len).before) behind_c
 
           pub copies : Makes k a p e v second.before (places.taken k from len (list a root)) copy_takes
@@ -176,12 +184,12 @@ module _ {E A S : Type 0} (k : Meaning E A S) (laws : Laws k) (a : List (Cell E 
 
     -- ---- cutting: what lies before stands by
 
-    arena_b : Arena k b q (loose ++ (first.before ∷ owns.rest))
-    arena_b = rerooted k b q (first.before ∷ (loose ++ owns.rest)) moved_b.arena (loose ++ (first.before ∷ owns.rest))
-        (λ i h. omega (arith, occurs_append loose owns.rest i, occurs_append loose (first.before ∷ owns.rest) i))
+    arena_b : Arena k b q (loose ++ (first.before ∷ at.owns.rest))
+    arena_b = rerooted k b q (first.before ∷ (loose ++ at.owns.rest)) moved_b.arena (loose ++ (first.before ∷ at.owns.rest))
+        (λ i h. omega (arith, occurs_append loose at.owns.rest i, occurs_append loose (first.before ∷ at.owns.rest) i))
 
     pub rest_owns : Owns k b q loose [] (2 ^ 19)
-    rest_owns = record { rest = first.before ∷ owns.rest; arena = arena_b; kept = λ i h. absurd (omega (arith, h)); few = omega (arith, owns.few) }
+    rest_owns = record { rest = first.before ∷ at.owns.rest; arena = arena_b; kept = λ i h. absurd (omega (arith, h)); few = omega (arith, at.owns.few) }
 
     pub rest_few : count (tail (behind b first.loose)) < most
     rest_few = omega (arith, ap (λ r. count (tail r)) one.rest_is, sound.rest_few, T-few)
@@ -195,13 +203,13 @@ module _ {E A S : Type 0} (k : Meaning E A S) (laws : Laws k) (a : List (Cell E 
     pub rest_some : copy_takes ≤ p.free → parted_rest_cost (shape k) (behind b first.loose) len ≤ q.free
     rest_some some = omega (arith, cost_b, copy_costs, moved_b.free)
 
-    module _ (c : List (Cell E S)) (o : Pool) (second : Split E S)
+    module _ {c : List (Cell E S)} {o : Pool} {second : Split E S}
         (two : Splits k b q loose c o second (parted_rest (shape k) (behind b first.loose) len) (parted_rest_cost (shape k) (behind b first.loose) len)) where
       abbrev end : List ℕ
       end = loose_roots second.loose
 
-      moved_end : Moved k b q (first.before ∷ owns.rest) c o (second.before ∷ end) (parted_rest_cost (shape k) (behind b first.loose) len)
-      moved_end = two.each (first.before ∷ owns.rest) arena_b
+      moved_end : Moved k b q (first.before ∷ at.owns.rest) c o (second.before ∷ end) (parted_rest_cost (shape k) (behind b first.loose) len)
+      moved_end = two.each (first.before ∷ at.owns.rest) arena_b
 
       before_c : tree c first.before ≡ s.before
       before_c = sym (tree_stays b c first.before (moved_end.stay first.before (let h = hit_same first.before in omega arith))) ∙ one.before_is
@@ -209,12 +217,12 @@ module _ {E A S : Type 0} (k : Meaning E A S) (laws : Laws k) (a : List (Cell E 
       end_c : behind c second.loose ≡ z.rest
       end_c = two.rest_is ∙ ap (λ r. (parted_rest (shape k) r len).rest) one.rest_is
 
-      arena_c : Arena k c o (first.before ∷ (end ++ (second.before ∷ owns.rest)))
-      arena_c = rerooted k c o (second.before ∷ (end ++ (first.before ∷ owns.rest))) moved_end.arena (first.before ∷ (end ++ (second.before ∷ owns.rest)))
-          (λ i h. omega (arith, occurs_append end (first.before ∷ owns.rest) i, occurs_append end (second.before ∷ owns.rest) i))
+      arena_c : Arena k c o (first.before ∷ (end ++ (second.before ∷ at.owns.rest)))
+      arena_c = rerooted k c o (second.before ∷ (end ++ (first.before ∷ at.owns.rest))) moved_end.arena (first.before ∷ (end ++ (second.before ∷ at.owns.rest)))
+          (λ i h. omega (arith, occurs_append end (first.before ∷ at.owns.rest) i, occurs_append end (second.before ∷ at.owns.rest) i))
 
       pub join_owns : Owns k c o (first.before ∷ end) [] (2 ^ 20)
-      join_owns = record { rest = second.before ∷ owns.rest; arena = arena_c; kept = λ i h. absurd (omega (arith, h)); few = omega (arith, owns.few) }
+      join_owns = record { rest = second.before ∷ at.owns.rest; arena = arena_c; kept = λ i h. absurd (omega (arith, h)); few = omega (arith, at.owns.few) }
 
       pub join_few : count (tree c first.before) + count (tail (behind c second.loose)) < most
       join_few = omega (arith, ap count before_c, ap (λ r. count (tail r)) end_c, end_sound.rest_few, both_counts (shape k) T from, T-few)
@@ -228,7 +236,7 @@ module _ {E A S : Type 0} (k : Meaning E A S) (laws : Laws k) (a : List (Cell E 
       pub join_some : edit_takes ≤ p.free → joined_cost (tree c first.before) (behind c second.loose) ≤ o.free
       join_some some = omega (arith, cost_b, joined_is, cut_costs, moved_b.free, moved_end.free)
 
-      module _ (d : List (Cell E S)) (w : Pool) (left : ℕ)
+      module _ {d : List (Cell E S)} {w : Pool} {left : ℕ}
           (three : Grows k false c o (first.before ∷ end) d w left (joined (tree c first.before) (behind c second.loose)) (joined_cost (tree c first.before) (behind c second.loose))) where
         moves_c : Moves k a p [] c o (first.before ∷ second.before ∷ end) (parted_cost (shape k) T from + parted_rest_cost (shape k) (behind b first.loose) len)
         moves_c = moves_then k a p [] b q (first.before ∷ loose) (parted_cost (shape k) T from) one.each loose (first.before ∷ []) (λ i. omega arith)
@@ -241,7 +249,7 @@ module _ {E A S : Type 0} (k : Meaning E A S) (laws : Laws k) (a : List (Cell E 
         range_d : tree d second.before ≡ taken (shape k) T from len
         unfolding taken
         range_d =
-            sym (tree_stays c d second.before ((three.each (second.before ∷ owns.rest) arena_c).stay second.before (let h = hit_same second.before in omega arith)))
+            sym (tree_stays c d second.before ((three.each (second.before ∷ at.owns.rest) arena_c).stay second.before (let h = hit_same second.before in omega arith)))
             ∙ two.before_is ∙ ap (λ r. (parted_rest (shape k) r len).before) one.rest_is
 
         pub cuts : Cuts k a p d w (record { left = left; taken = second.before }) (list a root) from len edit_takes

@@ -3,6 +3,8 @@ use Rattle.std.proofs.Common.{◌≡◌, ℕ, ◌+◌, ◌-◌, ◌^◌, ◌≤�
 use Rattle.std.specs.List.{AllByRecursion}
 use Rattle.faults.specs.Limits.{limit}
 use Rattle.kinds.specs.Kinds.{Meaning, Lawful}
+use Rattle.kinds.specs.Places.{extent_of}
+use Rattle.kinds.proofs.Places.{extent_counts}
 use Rattle.balance.specs.Trees.{Tree, elements, count, Balanced}
 use Rattle.balance.specs.Lists.{Shape, front, back}
 use Rattle.balance.specs.Ways.{span}
@@ -14,13 +16,14 @@ use Rattle.balance.proofs.Edits.{parted_divides}
 use Rattle.cells.specs.declared.cell.Cell.{Cell}
 use Rattle.cells.specs.declared.pool.Pool.{Pool}
 use Rattle.cells.specs.Cells.{shape, cell_count, tree, Live}
-use Rattle.cells.specs.Reach.{Among}
+use Rattle.cells.specs.Reach.{Among, Stays}
 use Rattle.cells.specs.References.{Arena}
 use Rattle.cells.specs.Moves.{Moves, Releases}
 use Rattle.cells.proofs.Names.{hit_same}
 use Rattle.cells.proofs.Arenas.{rooted}
 use Rattle.cells.proofs.Moving.{moves_none}
-use Rattle.cells.proofs.Trees.{known}
+use Rattle.cells.proofs.Staying.{tree_stays}
+use Rattle.cells.proofs.Trees.{known, meant_span}
 use Rattle.walks.proofs.Atoms.{tree_lawful}
 use Rattle.splits.specs.declared.split.Loose.{Loose}
 use Rattle.splits.specs.Owning.{Owns}
@@ -55,23 +58,69 @@ both_counts k t p =
       count_length t,
     )
 
--- ---- the tree of an owned root
+-- ---- an owned root: its tree and its list
 
-module _ {E A S : Type 0} (k : Meaning E A S) (a : List (Cell E S)) (p : Pool) (rs : List ℕ) (arena : Arena k a p rs) (root : ℕ) (owned : Among rs root) where
-  root_live : Live a root
-  root_live = rooted k a p rs arena root owned
+-- what stays reached keeps its list
+pub list_stays : {E S : Type 0} (a b : List (Cell E S)) (r : ℕ) → Stays a b r → list b r ≡ list a r
+list_stays a b r stays = ap elements (sym (tree_stays a b r stays))
+
+pub at_top : (r : ℕ) (rs : List ℕ) → Among (r ∷ rs) r
+at_top r rs = let h = hit_same r in omega arith
+
+-- the width of a link is the extent of its list
+pub wide : {E A S : Type 0} (k : Meaning E A S) (a : List (Cell E S)) (r : ℕ) → span (shape k) (tree a r) ≡ extent_of k (list a r)
+wide k a r = sym (meant_span k (tree a r)) ∙ sym (extent_counts k (list a r))
+
+module _ {E A S : Type 0} {k : Meaning E A S} {a : List (Cell E S)} {p : Pool} {rs : List ℕ} (arena : Arena k a p rs) (root : ℕ) (owned : Among rs root) where
+  pub owned_live : Live a root
+  owned_live = rooted k a p rs arena root owned
 
   pub owned_balanced : Balanced (tree a root)
-  owned_balanced = (known k a arena.sound root root_live).balanced
+  owned_balanced = (known k a arena.sound root owned_live).balanced
 
   pub owned_lawful : AllByRecursion (Lawful k) (elements (tree a root))
-  owned_lawful = tree_lawful k a arena.sound root root_live
+  owned_lawful = tree_lawful k a arena.sound root owned_live
 
-  pub owned_short : span (shape k) (tree a root) ≤ limit
-  owned_short = live_short k a arena.sound root root_live
+  pub owned_short : extent_of k (list a root) ≤ limit
+  owned_short = omega (arith, live_short k a arena.sound root owned_live, wide k a root)
 
-  pub owned_counts : cell_count a root ≡ length (list a root)
-  owned_counts = sym (known k a arena.sound root root_live).counts ∙ count_length (tree a root)
+  pub owned_count : cell_count a root ≡ length (list a root)
+  owned_count = sym (known k a arena.sound root owned_live).counts ∙ count_length (tree a root)
+
+-- the first of the owned roots
+module _ {E A S : Type 0} {k : Meaning E A S} {a : List (Cell E S)} {p : Pool} {root : ℕ} {rs : List ℕ} (arena : Arena k a p (root ∷ rs)) where
+  pub top_live : Live a root
+  top_live = owned_live arena root (at_top root rs)
+
+  pub top_count : cell_count a root ≡ length (list a root)
+  top_count = owned_count arena root (at_top root rs)
+
+  pub top_short : extent_of k (list a root) ≤ limit
+  top_short = owned_short arena root (at_top root rs)
+
+  pub top_few : length (list a root) ≤ most → cell_count a root ≤ most
+  top_few few = omega (arith, top_count)
+
+-- the first of the lent roots
+module _ {E A S : Type 0} {k : Meaning E A S} {a : List (Cell E S)} {p : Pool} {root : ℕ} {lent : List ℕ} {n : ℕ} (owns : Owns k a p [] (root ∷ lent) n) where
+  pub lent_among : Among owns.rest root
+  lent_among = owns.kept root (at_top root lent)
+
+  pub lent_live : Live a root
+  lent_live = owned_live owns.arena root lent_among
+
+  pub lent_count : cell_count a root ≡ length (list a root)
+  lent_count = owned_count owns.arena root lent_among
+
+  pub lent_short : extent_of k (list a root) ≤ limit
+  lent_short = owned_short owns.arena root lent_among
+
+  -- the others by themselves, and the same under another bound
+  pub lent_less : Owns k a p [] lent n
+  lent_less = record { rest = owns.rest; arena = owns.arena; kept = λ i h. owns.kept i (omega arith); few = owns.few }
+
+pub lent_more : {E A S : Type 0} {k : Meaning E A S} {a : List (Cell E S)} {p : Pool} {lent : List ℕ} {n m : ℕ} → Owns k a p [] lent n → n ≤ m → Owns k a p [] lent m
+lent_more owns h = record { rest = owns.rest; arena = owns.arena; kept = owns.kept; few = omega (arith, owns.few) }
 
 -- ---- giving back what lies behind a place
 
@@ -87,9 +136,7 @@ module _ {E A S : Type 0} (k : Meaning E A S) (a : List (Cell E S)) (p : Pool) (
     gone_arena = subst (λ o. Arena k a p (loose_roots o ++ owns.rest)) is owns.arena
 
     pub gone_few : cell_count a l.root ≤ most
-    gone_few =
-        let here : Among (l.root ∷ owns.rest) l.root = let h = hit_same l.root in omega arith in
-        omega (arith, owned_counts k a p (l.root ∷ owns.rest) gone_arena l.root here, count_length (tree a l.root), ap (λ o. count (tail (behind a o))) is, few)
+    gone_few = omega (arith, top_count gone_arena, count_length (tree a l.root), ap (λ o. count (tail (behind a o))) is, few)
 
     pub gone_some : (b : List (Cell E S)) (q : Pool) → ((rs : List ℕ) → Arena k a p (l.root ∷ rs) → Releases k a p rs b q) → Gone b q rest
     gone_some b q release = subst (Gone b q) (sym is) (λ rs arena. (release rs arena).moved)

@@ -13,9 +13,9 @@ ghost use Rattle.flat.specs.Refusals.{element_limit};
 ghost use Rattle.edits.specs.Edits.{edit_takes, copy_takes, insert_takes, list, Makes, Cuts};
 
 use crate::removal::Removal;
-use cells::{Cell, Item, Pool, make, release};
+use cells::{Cell, Item, NONE, Pool, make, release};
 use kinds::Kind;
-use splits::{Loose, NONE, join, merge, part, part_rest};
+use splits::{Loose, join, merge, part, part_rest};
 
 // A list of one element.
 pub fn single<K: Kind>(
@@ -29,11 +29,7 @@ pub fn single<K: Kind>(
     requires some { 1 ≤ pool.old.free }
     ensures { Makes (K.meaning kind.now) cells.old pool.old cells.new pool.new result (element ∷ []) 1 }
 {
-    let item = Item {
-        element,
-        own: kind.summary(element),
-    };
-    make(kind, cells, pool, NONE, item, NONE)
+    make(kind, cells, pool, NONE, Item::of(kind, element), NONE)
 }
 
 // The list of `root` with that of `new` put in at a place.

@@ -3,7 +3,9 @@
 #![tactic(auto)]
 
 mod editing;
+mod extents;
 mod removal;
 
 pub use editing::{copy, cut, insert, put, single};
+pub use extents::extent_at;
 pub use removal::Removal;

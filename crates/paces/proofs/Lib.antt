@@ -1,3 +1,4 @@
 pub mod Frees
 pub mod Onces
 pub mod Runs
+pub mod Sums

@@ -1,70 +1,78 @@
 -- What a round makes is given back.
 use Rattle.std.proofs.Common.{◌≡◌, ℕ, ◌+◌, ◌*◌, ◌^◌, ◌≤◌, List, [], ◌∷◌, length, refl, ap, ◌∙◌, ⊎_elim, arith}
 use Rattle.std.proofs.lemmas.Bool.{cases_lt}
-use Rattle.faults.specs.Limits.{limit}
 use Rattle.kinds.specs.Kinds.{Meaning}
-use Rattle.kinds.specs.Places.{extent_of, put_at, taken}
+use Rattle.kinds.specs.Places.{put_at, taken, without}
 use Rattle.kinds.proofs.Places.{taken_fewer}
 use Rattle.flat.specs.Refusals.{element_limit}
-use Rattle.balance.specs.Ways.{span}
 use Rattle.balance.specs.Levels.{most}
 use Rattle.cells.specs.declared.cell.Cell.{Cell}
 use Rattle.cells.specs.declared.pool.Pool.{Pool}
-use Rattle.cells.specs.Cells.{shape, cell_count, tree, Live}
+use Rattle.cells.specs.Cells.{cell_count}
 use Rattle.cells.specs.Reach.{hit, Among, AllStay}
 use Rattle.cells.specs.References.{Arena}
 use Rattle.cells.specs.Moves.{Moved, Moves, Releases}
-use Rattle.cells.proofs.Names.{hit_same}
 use Rattle.cells.proofs.Staying.{stays_refl, stays_trans}
-use Rattle.cells.proofs.Arenas.{rooted}
 use Rattle.cells.proofs.Moving.{moves_then}
 use Rattle.splits.specs.Owning.{Owns}
 use Rattle.edits.specs.declared.removal.Removal.{Removal}
 use Rattle.edits.specs.Edits.{edit_takes, copy_takes, list, Makes, Cuts}
-use Rattle.edits.proofs.Roots.{owned_counts, owned_short}
+use Rattle.edits.proofs.Roots.{list_stays, at_top, top_count, lent_among}
 use Rattle.tracks.proofs.Counts.{put_count, without_count}
-use Rattle.tracks.proofs.Owned.{list_stays, span_extent}
 use Rattle.paces.specs.Rests.{Rests}
 use Rattle.paces.proofs.Frees.{same_free, rests_moved}
 
-module _ {E A S : Type 0} (k : Meaning E A S) (a : List (Cell E S)) (p : Pool) (xs : List ℕ) (n : ℕ) (owns : Owns k a p [] xs n) where
+module _ {E A S : Type 0} {k : Meaning E A S} {a : List (Cell E S)} {p : Pool} {xs : List ℕ} {n : ℕ} (owns : Owns k a p [] xs n) where
   -- an owned root that is not longer than a track, and two elements, can be released
-  made_few : (b : List (Cell E S)) (q : Pool) (rs : List ℕ) (r : ℕ) → Arena k b q (r ∷ rs) → length (list b r) ≤ element_limit + 1 → cell_count b r ≤ most
-  made_few b q rs r arena few = omega (arith, owned_counts k b q (r ∷ rs) arena r (let h = hit_same r in omega arith))
+  made_few : {b : List (Cell E S)} {q : Pool} {rs : List ℕ} {r : ℕ} → Arena k b q (r ∷ rs) → length (list b r) ≤ element_limit + 1 → cell_count b r ≤ most
+  made_few arena few = omega (arith, top_count arena)
 
-  -- one root is made, and given back
-  module _ (b : List (Cell E S)) (q : Pool) (r m : ℕ) (each : Moves k a p [] b q (r ∷ []) m) where
-    pub made_arena : Arena k b q (r ∷ owns.rest)
-    made_arena = (each owns.rest owns.arena).arena
+  -- a list is put in, and what was made is given back
+  module _ (root place clip : ℕ) (few : length (list a root) + length (list a clip) ≤ element_limit) {b : List (Cell E S)} {q : Pool} {r : ℕ} (makes : Makes k a p b q r (put_at k place (list a clip) (list a root)) edit_takes) where
+    made_arena : Arena k b q (r ∷ owns.rest)
+    made_arena = (makes.each owns.rest owns.arena).arena
 
-    pub made_light : length (list b r) ≤ element_limit + 1 → cell_count b r ≤ most
-    made_light few = made_few b q owns.rest r made_arena few
+    pub made_owned : (ys : List ℕ) × Arena k b q (r ∷ ys)
+    made_owned = (owns.rest, made_arena)
+
+    pub made_light : cell_count b r ≤ most
+    made_light = made_few made_arena (omega (arith, ap length makes.listed, (put_count k (list a root) (list a clip) place).most))
+
+    pub made_count : {n : ℕ} → n ≡ cell_count b r → n ≡ length (put_at k place (list a clip) (list a root))
+    made_count counts = omega (arith, top_count made_arena, ap length makes.listed)
 
     pub made_rests : (c : List (Cell E S)) (o : Pool) → ((rs : List ℕ) → Arena k b q (r ∷ rs) → Releases k b q rs c o) → length c ≡ length a → Rests k a p c o
     made_rests c o drop long =
-        rests_moved k a p c o (m + 0) (moves_then k a p [] b q (r ∷ []) m each (r ∷ []) [] (λ i. omega arith) c o [] 0 (λ rs ar. (drop rs ar).moved) [] (λ i. omega arith)) long
+        rests_moved k a p c o (edit_takes + 0) (moves_then k a p [] b q (r ∷ []) edit_takes makes.each (r ∷ []) [] (λ i. omega arith) c o [] 0 (λ rs ar. (drop rs ar).moved) [] (λ i. omega arith)) long
 
-  pub put_few : (root place clip : ℕ) → length (list a root) + length (list a clip) ≤ element_limit → (b : List (Cell E S)) (r : ℕ) → list b r ≡ put_at k place (list a clip) (list a root) → length (list b r) ≤ element_limit + 1
-  put_few root place clip few b r is = omega (arith, ap length is, (put_count k (list a root) (list a clip) place).most)
-
-  module _ (root from len : ℕ) (few : length (list a root) ≤ element_limit) (b : List (Cell E S)) (q : Pool) (r : Removal) (cuts : Cuts k a p b q r (list a root) from len edit_takes) where
-    pub cut_arena : Arena k b q (r.left ∷ (r.taken ∷ owns.rest))
+  -- a range is cut out, and both lists are given back
+  module _ (root from len : ℕ) (few : length (list a root) ≤ element_limit) {b : List (Cell E S)} {q : Pool} {r : Removal} (cuts : Cuts k a p b q r (list a root) from len edit_takes) where
+    cut_arena : Arena k b q (r.left ∷ (r.taken ∷ owns.rest))
     cut_arena = (cuts.each owns.rest owns.arena).arena
 
+    pub left_owned : (ys : List ℕ) × Arena k b q (r.left ∷ ys)
+    left_owned = (r.taken ∷ owns.rest, cut_arena)
+
     pub left_light : cell_count b r.left ≤ most
-    left_light = made_few b q (r.taken ∷ owns.rest) r.left cut_arena (omega (arith, ap length cuts.left, without_count k (list a root) from len))
+    left_light = made_few cut_arena (omega (arith, ap length cuts.left, without_count k (list a root) from len))
+
+    pub left_count : {n : ℕ} → n ≡ cell_count b r.left → n ≡ length (without k from len (list a root))
+    left_count counts = omega (arith, top_count cut_arena, ap length cuts.left)
 
     module _ (c : List (Cell E S)) (o : Pool) (drop : (rs : List ℕ) → Arena k b q (r.left ∷ rs) → Releases k b q rs c o) where
       to_c : Moves k a p [] c o (r.taken ∷ []) (edit_takes + 0)
       to_c = moves_then k a p [] b q (r.left ∷ r.taken ∷ []) edit_takes cuts.each (r.left ∷ []) (r.taken ∷ []) (λ i. omega arith) c o [] 0 (λ rs ar. (drop rs ar).moved) (r.taken ∷ []) (λ i. omega arith)
 
-      pub taken_arena : Arena k c o (r.taken ∷ owns.rest)
+      taken_arena : Arena k c o (r.taken ∷ owns.rest)
       taken_arena = (to_c owns.rest owns.arena).arena
+
+      pub taken_owned : (ys : List ℕ) × Arena k c o (r.taken ∷ ys)
+      taken_owned = (owns.rest, taken_arena)
 
       pub taken_light : cell_count c r.taken ≤ most
       taken_light =
-          let stays = (drop (r.taken ∷ owns.rest) cut_arena).moved.stay r.taken (let h = hit_same r.taken in omega arith) in
-          made_few c o owns.rest r.taken taken_arena (omega (arith, ap length (list_stays b c r.taken stays), ap length cuts.range, taken_fewer k (list a root) from len))
+          let stays = (drop (r.taken ∷ owns.rest) cut_arena).moved.stay r.taken (at_top r.taken owns.rest) in
+          made_few taken_arena (omega (arith, ap length (list_stays b c r.taken stays), ap length cuts.range, taken_fewer k (list a root) from len))
 
       pub cut_rests : (d : List (Cell E S)) (w : Pool) → ((rs : List ℕ) → Arena k c o (r.taken ∷ rs) → Releases k c o rs d w) → length d ≡ length a → Rests k a p d w
       cut_rests d w drop' long =
@@ -82,33 +90,20 @@ rests_then k a p b q c o first second rs arena =
     let y = second rs x.arena in
     record { arena = y.arena; stay = λ r among. stays_trans a b c r (x.stay r among) (y.stay r among); free = y.free ∙ x.free }
 
-module _ {E A S : Type 0} (k : Meaning E A S) (a : List (Cell E S)) (p : Pool) (xs : List ℕ) (n : ℕ) (owns : Owns k a p [] xs n) where
-  pub lent_live : (r : ℕ) → Among xs r → Live a r
-  lent_live r among = rooted k a p owns.rest owns.arena r (owns.kept r among)
+module _ {E A S : Type 0} {k : Meaning E A S} {a : List (Cell E S)} {p : Pool} {xs : List ℕ} {n : ℕ} (owns : Owns k a p [] xs n) {b : List (Cell E S)} {q : Pool} (rests : Rests k a p b q) where
+  pub rests_owns : Owns k b q [] xs n
+  rests_owns = record { rest = owns.rest; arena = (rests owns.rest owns.arena).arena; kept = owns.kept; few = owns.few }
 
-  pub lent_count : (r : ℕ) → Among xs r → cell_count a r ≡ length (list a r)
-  lent_count r among = owned_counts k a p owns.rest owns.arena r (owns.kept r among)
+  pub rests_list : (r : ℕ) → Among xs r → list b r ≡ list a r
+  rests_list r among = list_stays a b r ((rests owns.rest owns.arena).stay r (owns.kept r among))
 
-  pub lent_extent : (r : ℕ) → span (shape k) (tree a r) ≡ extent_of k (list a r)
-  lent_extent r = span_extent k a r
-
-  pub lent_short : (r : ℕ) → Among xs r → span (shape k) (tree a r) ≤ limit
-  lent_short r among = owned_short k a p owns.rest owns.arena r (owns.kept r among)
-
-  module _ (b : List (Cell E S)) (q : Pool) (rests : Rests k a p b q) where
-    pub rests_owns : Owns k b q [] xs n
-    rests_owns = record { rest = owns.rest; arena = (rests owns.rest owns.arena).arena; kept = owns.kept; few = owns.few }
-
-    pub rests_list : (r : ℕ) → Among xs r → list b r ≡ list a r
-    rests_list r among = list_stays a b r ((rests owns.rest owns.arena).stay r (owns.kept r among))
-
-    pub rests_free : q.free ≡ p.free
-    rests_free = (rests owns.rest owns.arena).free
+  pub rests_free : q.free ≡ p.free
+  rests_free = (rests owns.rest owns.arena).free
 
 -- ---- a clip, the rounds, and the clip given back
 
-module _ {E A S : Type 0} (k : Meaning E A S) (a : List (Cell E S)) (p : Pool) (root len : ℕ) (owns : Owns k a p [] (root ∷ []) (2 ^ 14)) (few : length (list a root) ≤ element_limit) (some : 2048 ≤ p.free)
-    (b : List (Cell E S)) (q : Pool) (clip : ℕ) (makes : Makes k a p b q clip (taken k 0 len (list a root)) copy_takes) where
+module _ {E A S : Type 0} {k : Meaning E A S} {a : List (Cell E S)} {p : Pool} {root : ℕ} (len : ℕ) (owns : Owns k a p [] (root ∷ []) (2 ^ 14)) (few : length (list a root) ≤ element_limit) (some : 2048 ≤ p.free)
+    {b : List (Cell E S)} {q : Pool} {clip : ℕ} (makes : Makes k a p b q clip (taken k 0 len (list a root)) copy_takes) where
   copied : Moved k a p owns.rest b q (clip ∷ []) copy_takes
   copied = makes.each owns.rest owns.arena
 
@@ -121,7 +116,7 @@ module _ {E A S : Type 0} (k : Meaning E A S) (a : List (Cell E S)) (p : Pool) (
   }
 
   root_list : list b root ≡ list a root
-  root_list = list_stays a b root (copied.stay root (owns.kept root (let h = hit_same root in omega arith)))
+  root_list = list_stays a b root (copied.stay root (lent_among owns))
 
   pub clip_few : length (list b root) + length (list b clip) ≤ 2 * element_limit
   clip_few = omega (arith, few, ap length root_list, ap length makes.listed, taken_fewer k (list a root) 0 len)
@@ -129,14 +124,17 @@ module _ {E A S : Type 0} (k : Meaning E A S) (a : List (Cell E S)) (p : Pool) (
   pub clip_some : edit_takes ≤ q.free
   clip_some = omega (arith, some, copied.free)
 
-  module _ (c : List (Cell E S)) (o : Pool) (rests : Rests k b q c o) where
-    pub clip_arena : Arena k c o (clip ∷ owns.rest)
+  module _ {c : List (Cell E S)} {o : Pool} (rests : Rests k b q c o) where
+    clip_arena : Arena k c o (clip ∷ owns.rest)
     clip_arena = (rests (clip ∷ owns.rest) copied.arena).arena
+
+    pub clip_owned : (ys : List ℕ) × Arena k c o (clip ∷ ys)
+    clip_owned = (owns.rest, clip_arena)
 
     pub clip_light : cell_count c clip ≤ most
     clip_light =
-        let stays = (rests (clip ∷ owns.rest) copied.arena).stay clip (let h = hit_same clip in omega arith) in
-        made_few k a p (root ∷ []) (2 ^ 14) owns c o owns.rest clip clip_arena (omega (arith, few, ap length (list_stays b c clip stays), ap length makes.listed, taken_fewer k (list a root) 0 len))
+        let stays = (rests (clip ∷ owns.rest) copied.arena).stay clip (at_top clip owns.rest) in
+        made_few owns clip_arena (omega (arith, few, ap length (list_stays b c clip stays), ap length makes.listed, taken_fewer k (list a root) 0 len))
 
     pub clip_rests : (d : List (Cell E S)) (w : Pool) → ((rs : List ℕ) → Arena k c o (clip ∷ rs) → Releases k c o rs d w) → length d ≡ length a → Rests k a p d w
     clip_rests d w drop long rs arena =

@@ -1,1 +1,3 @@
 pub mod Rests
+pub mod Sums
+pub mod Works

@@ -7,15 +7,16 @@ ghost use Rattle.paces.specs.Rests.{Rests};
 
 use crate::pace::Pace;
 use crate::rounds::{cuts, overviews, puts, reads};
+use crate::work::Work;
 use audio::Audio;
 use cells::{Cell, Pool, count_at, free, release, start};
-use edits::copy;
+use edits::{copy, extent_at};
 use kinds::Kind;
 use reels::{Pcm, Reel};
-use tracks::{Piece, lay_all};
-use walks::width_at;
+use tracks::{Piece, blank, lay_all};
 
-const CELLS: u32 = 8192;
+// What is told where nothing is done.
+const IDLE: Pace = Pace { sum: 0, free: 8192 };
 
 // The most elements that a run is built of.
 const PIECES: u32 = 4096;
@@ -35,7 +36,7 @@ fn puts_with<K: Kind>(
     ensures { Rests (K.meaning kind.now) cells.old pool.old cells.new pool.new }
 {
     let elements = count_at(cells, root) + count_at(cells, clip);
-    let extent = width_at(kind, cells, root) + width_at(kind, cells, clip);
+    let extent = extent_at(kind, cells, root) + extent_at(kind, cells, clip);
     if elements > 4095 || extent > 1073741824 {
         return 0;
     }
@@ -55,83 +56,60 @@ fn with_clip<K: Kind>(
     requires some { 2048 ≤ pool.old.free }
     ensures { Rests (K.meaning kind.now) cells.old pool.old cells.new pool.new }
 {
-    let end = width_at(kind, cells, root);
+    let end = extent_at(kind, cells, root);
     let clip = copy(kind, cells, pool, root, 0, end / 100);
     let sum = puts_with(kind, cells, pool, root, clip, rounds);
     release(kind, cells, pool, clip);
     sum
 }
 
-// The rounds of one kind of work: 1 putting in, 2 cutting out, 3 reading, 4 overviews, none otherwise.
+// The rounds of one kind of work.
 fn worked<K: Kind>(
     kind: &K,
     cells: &mut [Cell<K::Element, K::Summary>],
     pool: &mut Pool,
     root: u32,
-    work: u32,
+    work: Work,
     rounds: u32,
 ) -> u64
     requires owns { Owns (K.meaning kind.now) cells.old pool.old [] (root ∷ []) (2 ^ 14) }
     requires few { length (list cells.old root) ≤ element_limit }
     ensures { Rests (K.meaning kind.now) cells.old pool.old cells.new pool.new }
 {
-    if pool.free < 2048 {
+    if pool.free < 2048 || extent_at(kind, cells, root) == 0 {
         return 0;
     }
     match work {
-        1 => with_clip(kind, cells, pool, root, rounds),
-        2 => cuts(kind, cells, pool, root, rounds),
-        3 => reads(kind, cells, root, rounds),
-        4 => overviews(kind, cells, root, rounds),
-        _ => 0,
+        Work::Put => with_clip(kind, cells, pool, root, rounds),
+        Work::Cut => cuts(kind, cells, pool, root, rounds),
+        Work::Read => reads(kind, cells, root, rounds),
+        Work::Overview => overviews(kind, cells, root, rounds),
     }
 }
 
 // A track of so many elements of equal extents over the reel, and the rounds over it.
-fn paced(kind: &Audio<Pcm<'_>>, frames: u32, elements: u32, work: u32, rounds: u32) -> Pace
+fn paced(kind: &Audio<Pcm<'_>>, frames: u32, elements: u32, work: Work, rounds: u32) -> Pace
     ensures { result.free ≡ 8192 }
 {
-    let idle = Pace {
-        sum: 0,
-        free: CELLS,
-    };
     if elements == 0 || elements > PIECES {
-        return idle;
+        return IDLE;
     }
     let width = frames / elements;
     let Ok(element) = kind.make(0, width) else {
-        return idle;
+        return IDLE;
     };
-    let own = kind.empty();
-    let blank = Cell {
-        element,
-        own,
-        left: 0,
-        right: 0,
-        count: 0,
-        summary: own,
-        refs: 0,
-    };
-    let mut cells = [blank; 8192];
+    let mut cells = [blank(kind, element); 8192];
     let mut pieces = [Piece {
         first: 0,
         second: width,
     }; 4096];
+    let pieces = &mut pieces[0..elements as usize];
     let mut first = 0u32;
-    for i in 0..elements {
-        pieces[i as usize] = Piece {
-            first,
-            second: width,
-        };
+    for piece in pieces.iter_mut() {
+        piece.first = first;
         first = first.saturating_add(width);
     }
-    run(
-        kind,
-        &mut cells,
-        &pieces[0..elements as usize],
-        work,
-        rounds,
-    )
+    run(kind, &mut cells, pieces, work, rounds)
 }
 
 // Builds the track, does the rounds, and gives everything back.
@@ -139,7 +117,7 @@ fn run<K: Kind>(
     kind: &K,
     cells: &mut [Cell<K::Element, K::Summary>],
     pieces: &[Piece],
-    work: u32,
+    work: Work,
     rounds: u32,
 ) -> Pace
     requires { length cells.old ≡ 8192 }
@@ -155,16 +133,13 @@ fn run<K: Kind>(
     }
 }
 
-// Over PCM bytes; bytes that are no reel are no work.
+// Over PCM bytes; bytes that are no reel are no work, and neither is a number that names none.
 #[unsafe(no_mangle)]
 pub extern "C" fn pace_of(bytes: &[u8], elements: u32, work: u32, rounds: u32) -> Pace
     ensures { result.free ≡ 8192 }
 {
-    match Pcm::new(bytes) {
-        Ok(reel) => paced(&Audio::new(reel), reel.len(), elements, work, rounds),
-        Err(_) => Pace {
-            sum: 0,
-            free: CELLS,
-        },
+    match (Pcm::new(bytes), Work::try_from(work)) {
+        (Ok(reel), Ok(work)) => paced(&Audio::new(reel), reel.len(), elements, work, rounds),
+        _ => IDLE,
     }
 }

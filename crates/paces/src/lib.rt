@@ -6,6 +6,8 @@ mod entry;
 mod pace;
 mod places;
 mod rounds;
+mod work;
 
 pub use entry::pace_of;
 pub use pace::Pace;
+pub use work::{NoWork, Work};

@@ -3,22 +3,15 @@
 
 mod options;
 
-use anyhow::anyhow;
+use anyhow::{Context, anyhow};
 use audio::{Audio, Clip, Levels};
-use cells::Cell;
 use faults::SessionFault;
 use kinds::Kind;
 use options::{Options, parse};
-use profile::{SurveyFault, time_of, wave_row};
+use profile::{SurveyFault, time_of};
 use reels::{Gain, Joined, MuLaw, Pcm};
-use std::io::Write;
-use std::{env, fs};
-use tracks::{Rearranged, Version, rearrange};
-
-// A row of the waveform is a band of 4,096 sample values.
-const ROWS: u16 = 16;
-
-const BAND: i32 = 4096;
+use terminal::{called_with, print_wave, read};
+use tracks::{Rearranged, Version, blank, rearrange};
 
 const CELLS: usize = 8192;
 
@@ -43,10 +36,7 @@ fn main(rt: HostRuntime) -> anyhow::Result<()> {
 }
 
 fn run(rt: &HostRuntime) -> anyhow::Result<()> {
-    let mut words = Vec::new(rt.alloc());
-    for word in env::args(rt)?.skip(1) {
-        words.push(word)?;
-    }
+    let words = called_with(rt)?;
     match parse(rt.alloc(), words.as_slice())? {
         Some(options) => with_reels(rt, &options),
         None => {
@@ -56,36 +46,31 @@ fn run(rt: &HostRuntime) -> anyhow::Result<()> {
     }
 }
 
-fn read(rt: &HostRuntime, path: Option<&str>) -> anyhow::Result<Vec<u8>> {
+// The bytes of a file, and none where none is named.
+fn bytes_of(rt: &HostRuntime, path: Option<&str>) -> anyhow::Result<Vec<u8>> {
     match path {
         None => Ok(Vec::new(rt.alloc())),
-        Some(path) => match fs::read(rt, path) {
-            Ok(bytes) => Ok(bytes),
-            Err(e) => Err(anyhow!(format!(in rt.alloc(); "{path}: {e}")?)),
-        },
+        Some(path) => read(rt, path),
     }
 }
 
+// The pile is not made at once, since each file has a message of its own.
 fn with_reels(rt: &HostRuntime, options: &Options<'_>) -> anyhow::Result<()> {
-    let first = read(rt, options.chosen.first)?;
-    let second = read(rt, options.chosen.second)?;
-    let Ok(pcm) = Pcm::new(first.as_slice()) else {
-        return Err(anyhow!("the file is no PCM reel"));
-    };
-    let Ok(mulaw) = MuLaw::new(second.as_slice()) else {
-        return Err(anyhow!("the second file is too long for a reel"));
-    };
-    let kind = Audio::new(Gain::new(
-        Joined::new(pcm, mulaw),
-        options.chosen.gain.min(65535) as u16,
-    ));
-    let Some(piece) = options.pieces.first() else {
-        return Err(anyhow!("no piece is named; --help tells how"));
-    };
-    match kind.make(piece.first, piece.second) {
-        Ok(element) => splice(rt, options, &kind, element),
-        Err(cause) => Err(refused(rt, SessionFault::Unlawful(cause))?),
-    }
+    let first = bytes_of(rt, options.chosen.first)?;
+    let second = bytes_of(rt, options.chosen.second)?;
+    let pcm = Pcm::new(first.as_slice()).map_err(|_| anyhow!("the file is no PCM reel"))?;
+    let mulaw = MuLaw::new(second.as_slice()).map_err(|_| anyhow!(
+        "the second file is too long for a reel"
+    ))?;
+    let kind = Audio::new(Gain::new(Joined::new(pcm, mulaw), options.chosen.gain));
+    let piece = options
+        .pieces
+        .first()
+        .context("no piece is named; --help tells how")?;
+    let element = kind
+        .make(piece.first, piece.second)
+        .map_err(|cause| refused(SessionFault::from(cause)))?;
+    splice(rt, options, &kind, element)
 }
 
 // Lays and moves, over cells of its own. What they hold at first does not matter.
@@ -95,39 +80,26 @@ fn splice<K: Kind<Element = Clip, Summary = Levels>>(
     kind: &K,
     element: Clip,
 ) -> anyhow::Result<()> {
-    let own = kind.empty();
-    let blank = Cell {
-        element,
-        own,
-        left: 0,
-        right: 0,
-        count: 0,
-        summary: own,
-        refs: 0,
-    };
-    let mut cells = vec![in rt.alloc(); blank; CELLS]?;
-    let shift = options.chosen.shift;
-    match rearrange(
+    let mut cells = vec![in rt.alloc(); blank(kind, element); CELLS]?;
+    let r = rearrange(
         rt.alloc(),
         kind,
         cells.as_mut_slice(),
         options.pieces.as_slice(),
-        shift.from,
-        shift.len,
-        shift.to,
-        options.chosen.columns,
-    ) {
-        Ok(r) => print_versions(rt, &r),
-        Err(SurveyFault::Session(fault)) => Err(refused(rt, fault)?),
-        Err(_) => Err(anyhow!("memory is wanting")),
-    }
+        options.chosen.shift,
+    )
+    .map_err(|fault| match fault {
+        SurveyFault::Session(fault) => refused(fault),
+        _ => anyhow!("memory is wanting"),
+    })?;
+    print_versions(rt, &r)
 }
 
 // A refusal, with its number and the cause inside it.
-fn refused(rt: &HostRuntime, fault: SessionFault) -> anyhow::Result<anyhow::Error> {
+fn refused(fault: SessionFault) -> anyhow::Error {
     let number = fault.number();
     let cause = fault.cause();
-    Ok(anyhow!(format!(in rt.alloc(); "refused with {number}, cause {cause}")?))
+    anyhow!("refused with {number}, cause {cause}")
 }
 
 fn print_versions(rt: &HostRuntime, r: &Rearranged<Levels>) -> anyhow::Result<()> {
@@ -147,15 +119,5 @@ fn print_version(rt: &HostRuntime, name: &str, v: Version, beside: u32) -> anyho
     let took = v.took;
     let shares = elements.saturating_add(beside).saturating_sub(took);
     println!(rt; "{name}    {elements} elements, {time}, took {took} cells, shares {shares}")?;
-    Ok(())
-}
-
-fn print_wave(rt: &HostRuntime, columns: &[Levels]) -> anyhow::Result<()> {
-    for row in 0..ROWS {
-        let high = 32767 - row as i32 * BAND;
-        let marks = wave_row(rt.alloc(), columns, (high - BAND + 1) as i16, high as i16)?;
-        rt.stdout().write_all(marks.as_slice())?;
-        println!(rt; "|")?;
-    }
     Ok(())
 }

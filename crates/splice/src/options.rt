@@ -1,16 +1,9 @@
-ghost use Rattle.std.specs.Prelude.{◌≤◌, IfSome, IfOk};
+ghost use Rattle.std.specs.Prelude.{◌≡◌, ◌≤◌, IfSome, IfOk};
 
-use anyhow::anyhow;
+use anyhow::{Context, anyhow};
 use std::alloc::Global;
-use tracks::Piece;
-
-// A range of a track, and the place in what is left where it is put in.
-#[derive(Clone, Copy)]
-pub struct Shift {
-    pub from: u32,
-    pub len: u32,
-    pub to: u32,
-}
+use terminal::{number, value};
+use tracks::{Piece, Shift};
 
 // What is asked for on the command line.
 #[derive(Drop)]
@@ -24,42 +17,38 @@ pub struct Options<'a> {
 pub struct Chosen<'a> {
     pub first: Option<&'a str>,
     pub second: Option<&'a str>,
-    pub gain: u32,
-    pub columns: u32,
+    pub gain: u16,
     pub shift: Shift,
 }
 
 // What the words name, or none where help is asked for.
 pub fn parse(heap: Global, words: &[String]) -> anyhow::Result<Option<Options<'_>>>
-    ensures { IfOk result (λ o. IfSome o (λ p. (1 ≤ p.chosen.columns) × (p.chosen.columns ≤ 200))) }
+    ensures { IfOk result (λ o. IfSome o (λ p. (1 ≤ p.chosen.shift.columns) × (p.chosen.shift.columns ≤ 200))) }
 {
     let mut pieces = Vec::new(heap);
     let mut chosen = Chosen {
         first: None,
         second: None,
         gain: 256,
-        columns: 64,
         shift: Shift {
             from: 0,
             len: 0,
             to: 0,
+            columns: 64,
         },
     };
-    let mut i = 0;
-    while i < words.len() {
-        let word = words[i].as_str();
+    let mut words = words.iter();
+    while let Some(word) = words.next() {
+        let word = word.as_str();
         if word == "--help" {
             return Ok(None);
         }
-        i += 1;
         if !word.starts_with("--") {
             chosen.first = Some(word);
         } else if word == "--piece" {
-            pieces.push(piece_of(value(words, i)?)?)?;
-            i += 1;
+            pieces.push(piece_of(value(&mut words)?)?)?;
         } else {
-            chosen = with_value(chosen, word, value(words, i)?)?;
-            i += 1;
+            chosen = with_value(chosen, word, value(&mut words)?)?;
         }
     }
     Ok(Some(Options { chosen, pieces }))
@@ -67,15 +56,15 @@ pub fn parse(heap: Global, words: &[String]) -> anyhow::Result<Option<Options<'_
 
 // The options with one more that has a value.
 fn with_value<'a>(so_far: Chosen<'a>, word: &str, value: &'a str) -> anyhow::Result<Chosen<'a>>
-    requires { (1 ≤ so_far.columns) × (so_far.columns ≤ 200) }
-    ensures { IfOk result (λ o. (1 ≤ o.columns) × (o.columns ≤ 200)) }
+    requires { (1 ≤ so_far.shift.columns) × (so_far.shift.columns ≤ 200) }
+    ensures { IfOk result (λ o. (1 ≤ o.shift.columns) × (o.shift.columns ≤ 200)) }
 {
     let mut options = so_far;
     match word {
         "--join-mulaw" => options.second = Some(value),
-        "--gain" => options.gain = number(value, 0, 65535)?,
-        "--columns" => options.columns = number(value, 1, 200)?,
-        "--move" => options.shift = shift_of(value)?,
+        "--gain" => options.gain = number(value, 0, 65535)? as u16,
+        "--columns" => options.shift.columns = number(value, 1, 200)?,
+        "--move" => options.shift = moved(options.shift, value)?,
         _ => return Err(anyhow!("an option is unknown; --help tells which there are")),
     }
     Ok(options)
@@ -90,37 +79,21 @@ fn piece_of(word: &str) -> anyhow::Result<Piece> {
     })
 }
 
-// FROM+LEN@TO
-fn shift_of(word: &str) -> anyhow::Result<Shift> {
+// FROM+LEN@TO, in as many columns as before.
+fn moved(shift: Shift, word: &str) -> anyhow::Result<Shift>
+    ensures { IfOk result (λ s. s.columns ≡ shift.columns) }
+{
     let (range, to) = halves(word, '@')?;
     let (from, len) = halves(range, '+')?;
     Ok(Shift {
         from: number(from, 0, u32::MAX)?,
         len: number(len, 0, u32::MAX)?,
         to: number(to, 0, u32::MAX)?,
+        ..shift
     })
 }
 
 fn halves(word: &str, mark: char) -> anyhow::Result<(&str, &str)> {
-    match word.split_once(mark) {
-        Some(both) => Ok(both),
-        None => Err(anyhow!("a piece or a move is not written as --help tells")),
-    }
-}
-
-fn value(words: &[String], i: usize) -> anyhow::Result<&str> {
-    match words.get(i) {
-        Some(word) => Ok(word.as_str()),
-        None => Err(anyhow!("the last option wants a value")),
-    }
-}
-
-// The number of a word that lies between two others.
-fn number(word: &str, least: u32, most: u32) -> anyhow::Result<u32>
-    ensures { IfOk result (λ n. (least ≤ n) × (n ≤ most)) }
-{
-    match word.parse::<u32>() {
-        Ok(n) if least <= n && n <= most => Ok(n),
-        _ => Err(anyhow!("a number is none, or is out of its range; --help tells which")),
-    }
+    word.split_once(mark)
+        .context("a piece or a move is not written as --help tells")
 }

@@ -1,5 +1,4 @@
 pub mod Counts
-pub mod Owned
 pub mod Pieces
 pub mod Ranges
 pub mod Few

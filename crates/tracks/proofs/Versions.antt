@@ -1,7 +1,8 @@
 -- The versions of a rearrangement, one step after the other, and all of them given back.
-use Rattle.std.proofs.Common.{◌≡◌, ℕ, ◌-◌, ◌^◌, ◌≤◌, true, List, [], ◌∷◌, length, take, is_err, IsErrAnd, Some, None, Ok, Err, Result, sym, refl, ap, ◌∙◌, subst, arith, MatchResult}
-use borrow.Author.Tests.{clash}
+use Rattle.std.proofs.Common.{◌≡◌, ℕ, ◌-◌, ◌^◌, ◌≤◌, List, [], ◌∷◌, length, take, drop, Some, Ok, Err, sym, ⊎_elim, refl, ap, ◌∙◌, subst, arith}
+use Rattle.std.proofs.lemmas.Bool.{cases_eq}
 use Rattle.std.proofs.lemmas.List.{take_all}
+use Rattle.std.proofs.lemmas.Result.{MatchResult-at_ok, MatchResult-at_err}
 use Rattle.faults.specs.declared.session.SessionFault.{SessionFault}
 use Rattle.kinds.specs.Kinds.{Meaning}
 use Rattle.kinds.specs.Places.{put_at, taken, without}
@@ -12,26 +13,21 @@ use Rattle.cells.specs.declared.pool.Pool.{Pool}
 use Rattle.cells.specs.Cells.{cell_count}
 use Rattle.cells.specs.Reach.{Among, Reached, HowMany, none, one, other}
 use Rattle.cells.specs.References.{Arena, NoneLost}
-use Rattle.cells.specs.Moves.{Releases}
-use Rattle.cells.proofs.Names.{hit_same}
+use Rattle.cells.specs.Moves.{Moved, Releases}
+use Rattle.cells.proofs.Names.{hit_same, hit_other}
 use Rattle.splits.specs.Owning.{Owns}
 use Rattle.flat.specs.Refusals.{fewest_cells}
 use Rattle.edits.specs.declared.removal.Removal.{Removal}
 use Rattle.edits.specs.Edits.{list, edit_takes}
 use Rattle.tracks.specs.declared.piece.Piece.{Piece}
 use Rattle.tracks.specs.declared.piece.Laid.{Laid}
-use Rattle.tracks.specs.declared.version.Version.{Version}
+use Rattle.tracks.specs.declared.shift.Shift.{Shift}
 use Rattle.tracks.specs.declared.version.Versions.{Versions}
-use Rattle.tracks.specs.Laying.{least_free, made_of, LaysAll}
-use Rattle.tracks.specs.Moving.{not_taken, not_put, TakesOut, PutsIn, Declines, Stops, at_piece, at_cut, at_paste, rearranged, Kept, Tells}
+use Rattle.tracks.specs.Laying.{least_free, made_of, next_not_laid, LaysAll}
+use Rattle.tracks.specs.Moving.{not_taken, not_put, TakesOut, PutsIn, Declines, Stops, at_piece, at_cut, at_paste, rearranged, roots, Held, Kept}
 use Rattle.tracks.proofs.Counts.{without_count}
-use Rattle.tracks.proofs.Owned.{list_stays, owned_count}
+use Rattle.edits.proofs.Roots.{list_stays, at_top, top_few}
 use Rattle.tracks.proofs.Few.{one_each}
-
--- an error that `?` carried on
-pub carried_to : {X Y : Type 0} (r : Result X Y) (y : Y) (P : X → Type 0) (Q : Y → Type 0) → is_err r ≡ true → IsErrAnd r (λ z. z ≡ y) → Q y → MatchResult r P Q
-carried_to (Ok x) y P Q h e q = absurd (clash h)
-carried_to (Err f) y P Q h e q = subst Q (sym e) q
 
 -- where no root is owned, no cell is reached
 none_reached : {E S : Type 0} (a : List (Cell E S)) {n m : ℕ} → HowMany (Reached a []) n m → m ≡ 0
@@ -42,31 +38,42 @@ none_reached a (other r h) = none_reached a h
 pub all_free : {E A S : Type 0} (k : Meaning E A S) (a : List (Cell E S)) (p : Pool) → NoneLost k a p [] → p.free ≡ length a
 all_free k a p lost = omega (arith, lost.all, none_reached a lost.counted)
 
-pub tells_same : {E A S : Type 0} (k : Meaning E A S) (v : Version) (es fs : List E) → es ≡ fs → Tells k v es → Tells k v fs
-tells_same k v es fs e t = subst (Tells k v) e t
+-- ---- giving roots back, one after the other
 
-module _ {E A S : Type 0} (k : Meaning E A S) (b : List (Cell E S)) (q : Pool) (r : ℕ) (rs : List ℕ) (arena : Arena k b q (r ∷ rs)) where
-  pub top_few : length (list b r) ≤ most → cell_count b r ≤ most
-  top_few few = omega (arith, owned_count k b q (r ∷ rs) arena r (let h = hit_same r in omega arith))
+-- what holds of the first root and of the others holds of each
+each_of : (P : ℕ → Type 0) (r : ℕ) (rs : List ℕ) → P r → ((i : ℕ) → Among rs i → P i) → (i : ℕ) → Among (r ∷ rs) i → P i
+each_of P r rs first others i among = ⊎_elim (λ e. subst P e first) (λ ne. let o = hit_other r i (λ e. ne (sym e)) in others i (omega (arith, among))) (cases_eq r i)
 
-  module _ (c : List (Cell E S)) (w : Pool) (release : (rs : List ℕ) → Arena k b q (r ∷ rs) → Releases k b q rs c w) where
-    pub without_top : Arena k c w rs
-    without_top = (release rs arena).moved.arena
+module _ {E A S : Type 0} {k : Meaning E A S} {b : List (Cell E S)} {q : Pool} {r : ℕ} {rs : List ℕ} (held : Held k b q (r ∷ rs)) where
+  pub held_owned : (ys : List ℕ) × Arena k b q (r ∷ ys)
+  held_owned = (rs, held.arena)
 
-    pub still_few : (y : ℕ) → Among rs y → length (list b y) ≤ most → length (list c y) ≤ most
-    still_few y among few = omega (arith, ap length (list_stays b c y ((release rs arena).moved.stay y among)))
+  pub held_few : cell_count b r ≤ most
+  held_few = top_few held.arena (held.few r (at_top r rs))
 
-module _ {E A S : Type 0} (k : Meaning E A S) (pieces : List Piece) (from len to : ℕ) (a : List (Cell E S)) (p : Pool) (arena : Arena k a p []) (some : fewest_cells ≤ p.free)
-    (b : List (Cell E S)) (q : Pool) (t : Laid) (lays : LaysAll k a p pieces b q t) where
+  pub held_less : (c : List (Cell E S)) (w : Pool) → ((rs : List ℕ) → Arena k b q (r ∷ rs) → Releases k b q rs c w) → Held k c w rs
+  held_less c w release =
+      let m = (release rs held.arena).moved in
+      record { arena = m.arena; few = λ y among. omega (arith, ap length (list_stays b c y (m.stay y among)), held.few y (omega (arith, among))) }
+
+-- ---- the steps
+
+module _ {E A S : Type 0} {k : Meaning E A S} {pieces : List Piece} {a : List (Cell E S)} {p : Pool} (s : Shift) (arena : Arena k a p []) (some : fewest_cells ≤ p.free)
+    {b : List (Cell E S)} {q : Pool} {t : Laid} (lays : LaysAll k a p pieces b q t) (same : length b ≡ length a) where
   arena_b : Arena k b q (t.root ∷ [])
   arena_b = (lays.each [] arena).arena
 
-  pub stopped_piece : (f : SessionFault) → t.stop ≡ Some f → length b ≡ length a → Stops k (length a) pieces from len to f
-  stopped_piece f e same = at_piece t.laid b q t.root same arena_b lays.listed (sym lays.why ∙ e)
+  pub stopped_piece : {f : SessionFault} → t.done ≡ Err f → Stops k (length a) pieces s f
+  stopped_piece {f} e =
+      at_piece t.laid b q t.root same arena_b lays.listed
+      (MatchResult-at_err (λ _. t.laid ≡ length pieces) (λ f. next_not_laid k (list b t.root) q.free (drop t.laid pieces) ≡ Some f) f e lays.done)
 
-  module _ (stop : t.stop ≡ None) (same : length b ≡ length a) where
+  module _ {u : Unit {0}} (done : t.done ≡ Ok u) where
+    all : t.laid ≡ length pieces
+    all = MatchResult-at_ok (λ _. t.laid ≡ length pieces) (λ f. next_not_laid k (list b t.root) q.free (drop t.laid pieces) ≡ Some f) u done lays.done
+
     is_b : list b t.root ≡ made_of k pieces
-    is_b = lays.listed ∙ ap (λ n. made_of k (take n pieces)) (lays.all stop) ∙ ap (made_of k) (take_all (length pieces) pieces (omega arith))
+    is_b = lays.listed ∙ ap (λ n. made_of k (take n pieces)) all ∙ ap (made_of k) (take_all (length pieces) pieces (omega arith))
 
     enough_b : least_free ≤ q.free
     enough_b = lays.enough (omega arith)
@@ -77,68 +84,65 @@ module _ {E A S : Type 0} (k : Meaning E A S) (pieces : List Piece) (from len to
     pub some_b : edit_takes ≤ q.free
     some_b = let e = enough_b in omega arith
 
-    module _ (c : List (Cell E S)) (w : Pool) where
-      pub stopped_cut : (f : SessionFault) → Declines k (not_taken k (list b t.root) q.free from len) b q c w f → Stops k (length a) pieces from len to f
-      stopped_cut f d = at_cut b q t.root same arena_b is_b d.because
+    pub stopped_cut : {c : List (Cell E S)} {w : Pool} {f : SessionFault} → Declines k (not_taken k (list b t.root) q.free s.from s.len) b q c w f → Stops k (length a) pieces s f
+    stopped_cut d = at_cut b q t.root same arena_b is_b d.because
 
-      module _ (r : Removal) (outs : TakesOut k b q t.root from len c w r) (same_c : length c ≡ length a) where
-        arena_c : Arena k c w (r.left ∷ r.taken ∷ t.root ∷ [])
-        arena_c = (outs.each (t.root ∷ []) arena_b).arena
+    module _ {c : List (Cell E S)} {w : Pool} {r : Removal} (outs : TakesOut k b q t.root s.from s.len c w r) (same_c : length c ≡ length a) where
+      moved_c : Moved k b q (t.root ∷ []) c w (r.left ∷ r.taken ∷ []) edit_takes
+      moved_c = outs.each (t.root ∷ []) arena_b
 
-        root_c : list c t.root ≡ made_of k pieces
-        root_c = list_stays b c t.root ((outs.each (t.root ∷ []) arena_b).stay t.root (let h = hit_same t.root in omega arith)) ∙ is_b
+      root_c : list c t.root ≡ made_of k pieces
+      root_c = list_stays b c t.root (moved_c.stay t.root (at_top t.root [])) ∙ is_b
 
-        left_c : list c r.left ≡ without k from len (made_of k pieces)
-        left_c = outs.left ∙ ap (without k from len) is_b
+      left_c : list c r.left ≡ without k s.from s.len (made_of k pieces)
+      left_c = outs.left ∙ ap (without k s.from s.len) is_b
 
-        range_c : list c r.taken ≡ taken k from len (made_of k pieces)
-        range_c = outs.range ∙ ap (taken k from len) is_b
+      range_c : list c r.taken ≡ taken k s.from s.len (made_of k pieces)
+      range_c = outs.range ∙ ap (taken k s.from s.len) is_b
 
-        pub cut_bound : q.free - w.free ≤ edit_takes
-        cut_bound = omega (arith, (outs.each (t.root ∷ []) arena_b).free)
+      pub owns_c : Owns k c w [] (r.left ∷ r.taken ∷ []) (2 ^ 14)
+      owns_c = record { rest = r.left ∷ r.taken ∷ t.root ∷ []; arena = moved_c.arena; kept = λ i h. omega (arith, h); few = omega arith }
 
-        pub owns_c : Owns k c w [] (r.left ∷ r.taken ∷ []) (2 ^ 14)
-        owns_c = record { rest = r.left ∷ r.taken ∷ t.root ∷ []; arena = arena_c; kept = λ i h. omega (arith, h); few = omega arith }
+      pub some_c : edit_takes ≤ w.free
+      some_c = let e = enough_b in omega (arith, moved_c.free)
 
-        pub some_c : edit_takes ≤ w.free
-        some_c = let e = enough_b in omega (arith, (outs.each (t.root ∷ []) arena_b).free)
+      pub stopped_paste : {d : List (Cell E S)} {x : Pool} {f : SessionFault} → Declines k (not_put k (list c r.left) (list c r.taken) w.free s.to) c w d x f → Stops k (length a) pieces s f
+      stopped_paste no_put = at_paste c w t.root r.left r.taken same_c moved_c.arena root_c left_c range_c no_put.because
 
-        module _ (d : List (Cell E S)) (x : Pool) where
-          pub stopped_paste : (f : SessionFault) → Declines k (not_put k (list c r.left) (list c r.taken) w.free to) c w d x f → Stops k (length a) pieces from len to f
-          stopped_paste f no_put = at_paste c w t.root r.left r.taken same_c arena_c root_c left_c range_c no_put.because
+      module _ {d : List (Cell E S)} {x : Pool} {moved : ℕ} (puts : PutsIn k c w r.left s.to r.taken d x moved) where
+        moved_d : Moved k c w (r.left ∷ r.taken ∷ t.root ∷ []) d x (moved ∷ []) edit_takes
+        moved_d = puts.each (r.left ∷ r.taken ∷ t.root ∷ []) moved_c.arena
 
-          module _ (moved : ℕ) (puts : PutsIn k c w r.left to r.taken d x moved) where
-            stay_d : (y : ℕ) → Among (r.left ∷ r.taken ∷ t.root ∷ []) y → list d y ≡ list c y
-            stay_d y among = list_stays c d y ((puts.each (r.left ∷ r.taken ∷ t.root ∷ []) arena_c).stay y among)
+        stay_d : (y : ℕ) → Among (r.left ∷ r.taken ∷ t.root ∷ []) y → list d y ≡ list c y
+        stay_d y among = list_stays c d y (moved_d.stay y among)
 
-            is_moved : list d moved ≡ rearranged k pieces from len to
-            is_moved = puts.listed ∙ ap (λ l. put_at k to l (list c r.left)) range_c ∙ ap (put_at k to (taken k from len (made_of k pieces))) left_c
+        is_moved : list d moved ≡ rearranged k pieces s
+        is_moved = puts.listed ∙ ap (λ l. put_at k s.to l (list c r.left)) range_c ∙ ap (put_at k s.to (taken k s.from s.len (made_of k pieces))) left_c
 
-            pub kept_all : (l m n : ℕ) → l ≡ p.free - q.free → m ≡ q.free - w.free → n ≡ w.free - x.free
-                → Kept k pieces from len to d x (record { laid = t.root; left = r.left; range = r.taken; moved = moved; laid_took = l; cut_took = m; moved_took = n })
-            kept_all l m n g e f = record {
-              arena = (puts.each (r.left ∷ r.taken ∷ t.root ∷ []) arena_c).arena;
-              is_laid = stay_d t.root (let h = hit_same t.root in omega arith) ∙ root_c;
-              is_left = stay_d r.left (let h = hit_same r.left in omega arith) ∙ left_c;
-              is_range = stay_d r.taken (let h = hit_same r.taken in omega arith) ∙ range_c;
-              is_moved = is_moved;
-              few = omega (arith, ap length is_b, lays.few);
-              moved_few = omega (arith, ap length is_moved, puts.few);
-              laid_took = omega (arith, one_each k b q t.root arena_b, ap length is_b, arena.all);
-              cut_took = omega (arith, cut_bound);
-              moved_took = omega (arith, (puts.each (r.left ∷ r.taken ∷ t.root ∷ []) arena_c).free);
-            }
+        pub kept_all : {l m n : ℕ} → l ≡ p.free - q.free → m ≡ q.free - w.free → n ≡ w.free - x.free
+            → Kept k pieces s d x (record { laid = record { root = t.root; took = l }; left = record { root = r.left; took = m }; range = r.taken; moved = record { root = moved; took = n } })
+        kept_all e f h = record {
+          arena = moved_d.arena;
+          is_laid = stay_d t.root (let h = hit_same t.root in omega arith) ∙ root_c;
+          is_left = stay_d r.left (let h = hit_same r.left in omega arith) ∙ left_c;
+          is_range = stay_d r.taken (let h = hit_same r.taken in omega arith) ∙ range_c;
+          is_moved = is_moved;
+          few = omega (arith, ap length is_b, lays.few);
+          moved_few = omega (arith, ap length is_moved, puts.few);
+          laid_took = omega (arith, one_each k b q t.root arena_b, ap length is_b, arena.all);
+          cut_took = omega (arith, moved_c.free);
+          moved_took = omega (arith, moved_d.free);
+        }
 
--- what is given back has few elements
-module _ {E A S : Type 0} (k : Meaning E A S) (pieces : List Piece) (from len to : ℕ) (b : List (Cell E S)) (q : Pool) (v : Versions) (kept : Kept k pieces from len to b q v) where
-  pub few_moved : length (list b v.moved) ≤ most
-  few_moved = omega (arith, ap length kept.is_moved, kept.moved_few)
-
-  pub few_left : length (list b v.left) ≤ most
-  few_left = omega (arith, ap length kept.is_left, kept.few, without_count k (made_of k pieces) from len)
-
-  pub few_range : length (list b v.range) ≤ most
-  few_range = omega (arith, ap length kept.is_range, kept.few, taken_fewer k (made_of k pieces) from len)
-
-  pub few_laid : length (list b v.laid) ≤ most
-  few_laid = omega (arith, ap length kept.is_laid, kept.few)
+-- what is kept can be given back
+pub kept_held : {E A S : Type 0} {k : Meaning E A S} {pieces : List Piece} {s : Shift} {b : List (Cell E S)} {q : Pool} {v : Versions} → Kept k pieces s b q v → Held k b q (roots v)
+kept_held {k = k} {pieces = pieces} {s = s} {b = b} {v = v} kept =
+    let P : ℕ → Type 0 = λ r. length (list b r) ≤ most in
+    record {
+      arena = kept.arena;
+      few =
+          each_of P v.moved.root (v.left.root ∷ v.range ∷ v.laid.root ∷ []) (omega (arith, ap length kept.is_moved, kept.moved_few))
+          (each_of P v.left.root (v.range ∷ v.laid.root ∷ []) (omega (arith, ap length kept.is_left, kept.few, without_count k (made_of k pieces) s.from s.len))
+          (each_of P v.range (v.laid.root ∷ []) (omega (arith, ap length kept.is_range, kept.few, taken_fewer k (made_of k pieces) s.from s.len))
+          (each_of P v.laid.root [] (omega (arith, ap length kept.is_laid, kept.few)) (λ i h. absurd (omega (arith, h))))));
+    }

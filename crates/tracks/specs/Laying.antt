@@ -1,5 +1,5 @@
 -- What is laid on a track, and why it is refused.
-use Rattle.std.specs.Prelude.{◌≡◌, ℕ, ◌*◌, ◌≤◌, List, [], ◌∷◌, ◌++◌, length, take, drop, Some, None, Option, nat_lt}
+use Rattle.std.specs.Prelude.{◌≡◌, ℕ, ◌*◌, ◌≤◌, List, [], ◌∷◌, ◌++◌, length, take, drop, Some, None, Option, nat_lt, MatchResult}
 use Rattle.faults.specs.Limits.{limit}
 use Rattle.faults.specs.declared.session.SessionFault.{SessionFault}
 use Rattle.faults.specs.declared.session.SessionFault.TheVariants.{ExtentLimit, ElementLimit}
@@ -35,19 +35,19 @@ module _ {E A S : Type 0} (k : Meaning E A S) where
   made_of (p ∷ ps) = elements_of (k.made p.first p.second) ++ made_of ps
 
   -- why a piece cannot be put at the end of a list, with so many cells free
-  abbrev pub not_laid : List E → ℕ → ℕ → ℕ → Option SessionFault
-  not_laid es free first second = refusal k (flatly es []) free (insert (extent_of k es) first second)
+  abbrev pub not_laid : List E → ℕ → Piece → Option SessionFault
+  not_laid es free p = refusal k (flatly es []) free (insert (extent_of k es) p.first p.second)
 
   -- why the next of some pieces cannot be put there, if there is one
   abbrev pub next_not_laid : List E → ℕ → List Piece → Option SessionFault
   next_not_laid es free [] = None
-  next_not_laid es free (p ∷ ps) = not_laid es free p.first p.second
+  next_not_laid es free (p ∷ ps) = not_laid es free p
 
-  -- The element of two numbers was put at the end of the list of root, which is given back.
-  pub record Lays (a : List (Cell E S)) (p : Pool) (root first second : ℕ) (b : List (Cell E S)) (q : Pool) (r : ℕ) : Type 0 where
-    pub accepted : not_laid (list a root) p.free first second ≡ None
+  -- The element of a piece was put at the end of the list of root, which is given back.
+  pub record Lays (a : List (Cell E S)) (p : Pool) (root : ℕ) (piece : Piece) (b : List (Cell E S)) (q : Pool) (r : ℕ) : Type 0 where
+    pub accepted : not_laid (list a root) p.free piece ≡ None
     pub each : Moves k a p (root ∷ []) b q (r ∷ []) insert_takes
-    pub listed : list b r ≡ list a root ++ elements_of (k.made first second)
+    pub listed : list b r ≡ list a root ++ elements_of (k.made piece.first piece.second)
     pub few : length (list b r) ≤ element_limit
     pub enough : least_free ≤ q.free
 
@@ -64,5 +64,4 @@ module _ {E A S : Type 0} (k : Meaning E A S) where
     pub listed : list b r.root ≡ made_of (take r.laid pieces)
     pub few : length (list b r.root) ≤ element_limit
     pub enough : least_free ≤ p.free → least_free ≤ q.free
-    pub why : r.stop ≡ next_not_laid (list b r.root) q.free (drop r.laid pieces)
-    pub all : r.stop ≡ None → r.laid ≡ length pieces
+    pub done : MatchResult r.done (λ _. r.laid ≡ length pieces) (λ f. next_not_laid (list b r.root) q.free (drop r.laid pieces) ≡ Some f)

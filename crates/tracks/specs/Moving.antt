@@ -7,6 +7,8 @@ use Rattle.kinds.specs.Kinds.{Meaning}
 use Rattle.kinds.specs.Places.{extent_of, atoms_of, put_at, taken, without}
 use Rattle.cells.specs.declared.cell.Cell.{Cell}
 use Rattle.cells.specs.declared.pool.Pool.{Pool}
+use Rattle.balance.specs.Levels.{most}
+use Rattle.cells.specs.Reach.{Among}
 use Rattle.cells.specs.References.{Arena}
 use Rattle.cells.specs.Moves.{Moves}
 use Rattle.flat.specs.Calls.{cut, paste}
@@ -17,6 +19,7 @@ use Rattle.profile.specs.Columns.{column}
 use Rattle.profile.specs.declared.fault.SurveyFault.{SurveyFault}
 use Rattle.profile.specs.declared.fault.SurveyFault.TheVariants.{Reel, Session, NoMemory}
 use Rattle.tracks.specs.declared.piece.Piece.{Piece}
+use Rattle.tracks.specs.declared.shift.Shift.{Shift}
 use Rattle.tracks.specs.declared.version.Version.{Version}
 use Rattle.tracks.specs.declared.version.Versions.{Versions}
 use Rattle.tracks.specs.declared.version.Rearranged.{Rearranged}
@@ -51,58 +54,66 @@ module _ {E A S : Type 0} (k : Meaning E A S) where
 
 -- Why a rearrangement stopped with f, in the order of the steps: at the start, at a piece, at the cut or at the paste. The
 -- number of free cells is that of cells as many as were lent, which hold the versions made so far and nothing else.
-pub data Stops {E A S : Type 0} (k : Meaning E A S) (size : ℕ) (pieces : List Piece) (from len to : ℕ) (f : SessionFault) : Type 0 where
-  at_start : cells_outside size ≡ Some f → Stops k size pieces from len to f
+pub data Stops {E A S : Type 0} (k : Meaning E A S) (size : ℕ) (pieces : List Piece) (s : Shift) (f : SessionFault) : Type 0 where
+  at_start : cells_outside size ≡ Some f → Stops k size pieces s f
   at_piece : (i : ℕ) (b : List (Cell E S)) (q : Pool) (root : ℕ) → length b ≡ size → Arena k b q (root ∷ []) → list b root ≡ made_of k (take i pieces)
-      → next_not_laid k (list b root) q.free (drop i pieces) ≡ Some f → Stops k size pieces from len to f
+      → next_not_laid k (list b root) q.free (drop i pieces) ≡ Some f → Stops k size pieces s f
   at_cut : (b : List (Cell E S)) (q : Pool) (root : ℕ) → length b ≡ size → Arena k b q (root ∷ []) → list b root ≡ made_of k pieces
-      → not_taken k (list b root) q.free from len ≡ Some f → Stops k size pieces from len to f
+      → not_taken k (list b root) q.free s.from s.len ≡ Some f → Stops k size pieces s f
   at_paste : (b : List (Cell E S)) (q : Pool) (root left range : ℕ) → length b ≡ size → Arena k b q (left ∷ range ∷ root ∷ []) → list b root ≡ made_of k pieces
-      → list b left ≡ without k from len (made_of k pieces) → list b range ≡ taken k from len (made_of k pieces)
-      → not_put k (list b left) (list b range) q.free to ≡ Some f → Stops k size pieces from len to f
+      → list b left ≡ without k s.from s.len (made_of k pieces) → list b range ≡ taken k s.from s.len (made_of k pieces)
+      → not_put k (list b left) (list b range) q.free s.to ≡ Some f → Stops k size pieces s f
 
 -- Why there is no rearrangement: for want of memory, or as the session would say.
-abbrev pub NotRearranged : {E A S : Type 0} → Meaning E A S → ℕ → List Piece → ℕ → ℕ → ℕ → SurveyFault → Type 0
-NotRearranged k size pieces from len to (Reel f) = ⊥
-NotRearranged k size pieces from len to (Session f) = Stops k size pieces from len to f
-NotRearranged k size pieces from len to NoMemory = Unit {0}
+abbrev pub NotRearranged : {E A S : Type 0} → Meaning E A S → ℕ → List Piece → Shift → SurveyFault → Type 0
+NotRearranged k size pieces s (Reel f) = ⊥
+NotRearranged k size pieces s (Session f) = Stops k size pieces s f
+NotRearranged k size pieces s NoMemory = Unit {0}
 
 -- Why there is none over a pile of two reels: bytes that are no reel are refused before anything else is looked at.
-abbrev pub NotOver : Option ReelFault → Option ReelFault → (SurveyFault → Type 0) → SurveyFault → Type 0
-NotOver (Some f) second P g = g ≡ Reel f
-NotOver None (Some f) P g = g ≡ Reel f
-NotOver None None P g = P g
+abbrev pub NotOver : Option ReelFault → (SurveyFault → Type 0) → SurveyFault → Type 0
+NotOver (Some f) P g = g ≡ Reel f
+NotOver None P g = P g
+
+-- the roots of versions, the last first
+abbrev pub roots : Versions → List ℕ
+roots v = v.moved.root ∷ v.left.root ∷ v.range ∷ v.laid.root ∷ []
+
+-- the roots rs are owned, and each can be given back
+pub record Held {E A S : Type 0} (k : Meaning E A S) (a : List (Cell E S)) (p : Pool) (rs : List ℕ) : Type 0 where
+  pub arena : Arena k a p rs
+  pub few : (r : ℕ) → Among rs r → length (list a r) ≤ most
 
 -- v tells how many elements es has, and its extent
 pub record Tells {E A S : Type 0} (k : Meaning E A S) (v : Version) (es : List E) : Type 0 where
   pub elements : v.elements ≡ length es
   pub extent : v.extent ≡ extent_of k es
 
-module _ {E A S : Type 0} (k : Meaning E A S) (pieces : List Piece) (from len to : ℕ) where
+module _ {E A S : Type 0} (k : Meaning E A S) (pieces : List Piece) (s : Shift) where
   -- the track that the range is moved in
   abbrev pub rearranged : List E
-  rearranged = put_at k to (taken k from len (made_of k pieces)) (without k from len (made_of k pieces))
+  rearranged = put_at k s.to (taken k s.from s.len (made_of k pieces)) (without k s.from s.len (made_of k pieces))
 
   -- the four lists of the roots v, and no other root is owned
   pub record Kept (b : List (Cell E S)) (q : Pool) (v : Versions) : Type 0 where
-    pub arena : Arena k b q (v.moved ∷ v.left ∷ v.range ∷ v.laid ∷ [])
-    pub is_laid : list b v.laid ≡ made_of k pieces
-    pub is_left : list b v.left ≡ without k from len (made_of k pieces)
-    pub is_range : list b v.range ≡ taken k from len (made_of k pieces)
-    pub is_moved : list b v.moved ≡ rearranged
+    pub arena : Arena k b q (roots v)
+    pub is_laid : list b v.laid.root ≡ made_of k pieces
+    pub is_left : list b v.left.root ≡ without k s.from s.len (made_of k pieces)
+    pub is_range : list b v.range ≡ taken k s.from s.len (made_of k pieces)
+    pub is_moved : list b v.moved.root ≡ rearranged
     pub few : length (made_of k pieces) ≤ element_limit
     pub moved_few : length rearranged ≤ element_limit
-    pub laid_took : v.laid_took ≤ length (made_of k pieces)
-    pub cut_took : v.cut_took ≤ edit_takes
-    pub moved_took : v.moved_took ≤ edit_takes
+    pub laid_took : v.laid.took ≤ length (made_of k pieces)
+    pub cut_took : v.left.took ≤ edit_takes
+    pub moved_took : v.moved.took ≤ edit_takes
 
-  -- Three versions are told, and the last is seen in n columns. Every cell of the size lent is free again.
-  pub record Rearranges (size n : ℕ) (r : Rearranged S) : Type 0 where
+  -- Three versions are told, and the last is seen in its columns. Every cell of the size lent is free again.
+  pub record Rearranges (size : ℕ) (r : Rearranged S) : Type 0 where
     pub laid : Tells k r.laid (made_of k pieces)
-    pub left : Tells k r.cut (without k from len (made_of k pieces))
-    pub clip : r.clip ≡ length (taken k from len (made_of k pieces))
+    pub left : Tells k r.cut (without k s.from s.len (made_of k pieces))
+    pub clip : r.clip ≡ length (taken k s.from s.len (made_of k pieces))
     pub moved : Tells k r.moved rearranged
-    pub columns : vec_items r.columns ≡ map (column k (atoms_of k rearranged) n) (range_with_len 0 n)
+    pub columns : vec_items r.columns ≡ map (column k (atoms_of k rearranged) s.columns) (range_with_len 0 s.columns)
     pub laid_took : r.laid.took ≤ length (made_of k pieces)
     pub cut_took : r.cut.took ≤ edit_takes
     pub moved_took : r.moved.took ≤ edit_takes

@@ -8,10 +8,11 @@ ghost use Rattle.profile.specs.Columns.{column, between};
 ghost use Rattle.edits.specs.Edits.{list};
 
 use cells::{Cell, Pool};
+use edits::extent_at;
 use kinds::Kind;
-use profile::edge_of;
+use profile::in_columns;
 use std::alloc::{AllocError, Global};
-use walks::{overview, width_at};
+use walks::View;
 
 // The summary of the atoms of a track from one place to another.
 pub fn stretch<K: Kind>(
@@ -30,7 +31,7 @@ pub fn stretch<K: Kind>(
     if from == to {
         kind.empty()
     } else {
-        overview(kind, cells, root, from, to - from)
+        View::new(kind, cells, root).overview(from, to - from)
     }
 }
 
@@ -46,13 +47,8 @@ pub fn columns_of<K: Kind>(
     requires { Owns (K.meaning kind.now) cells.now pool.now [] (root ∷ []) (2 ^ 16) }
     ensures { IfOk result (λ v. v.items ≡ map (column (K.meaning kind.now) (atoms_of (K.meaning kind.now) (list cells.now root)) n) (range_with_len 0 n)) }
 {
-    let extent = width_at(kind, cells, root);
-    let mut columns = Vec::new(heap);
-    let mut from = 0;
-    for i in 0..n {
-        let to = edge_of(extent, n, i + 1);
-        columns.push(stretch(kind, cells, pool, root, from, to))?;
-        from = to;
-    }
-    Ok(columns)
+    let extent = extent_at(kind, cells, root);
+    in_columns(heap, extent, n, |from, to| {
+        stretch(kind, cells, pool, root, from, to)
+    })
 }

@@ -1,58 +1,56 @@
 // Laying pieces at the end of a track.
-ghost use Rattle.std.specs.Prelude.{◌≡◌, ◌^◌, ◌≤◌, [], ◌∷◌, length, MatchResult};
+ghost use Rattle.std.specs.Prelude.{◌≡◌, ◌^◌, ◌≤◌, [], ◌∷◌, length, Some, None, MatchResult};
 ghost use Rattle.splits.specs.Owning.{Owns};
 ghost use Rattle.flat.specs.Refusals.{element_limit};
 ghost use Rattle.edits.specs.Edits.{list};
 ghost use Rattle.tracks.specs.Laying.{no_room_fault, not_laid, Lays, Refuses, LaysAll};
 
 use crate::piece::{Laid, Piece};
-use cells::{Cell, Pool, count_at, release};
-use edits::insert;
+use cells::{Cell, NONE, Pool, count_at, release};
+use edits::{extent_at, insert};
 use faults::SessionFault;
 use kinds::Kind;
-use splits::NONE;
-use walks::width_at;
 
-// What stands against a list of such an extent and so many elements, with so many cells free before it is made.
-pub(crate) fn no_room(extent: u32, elements: u32, free: u32) -> Option<SessionFault>
-    ensures { result ≡ no_room_fault extent elements free }
+// Whether anything stands against a list of such an extent and so many elements, with so many cells free before it is
+// made.
+pub(crate) fn room(extent: u32, elements: u32, free: u32) -> Result<(), SessionFault>
+    ensures { MatchResult result
+        (λ _. no_room_fault extent elements free ≡ None)
+        (λ f. no_room_fault extent elements free ≡ Some f) }
 {
     if extent > 1073741824 {
-        return Some(SessionFault::ExtentLimit);
+        return Err(SessionFault::ExtentLimit);
     }
     if elements > 4095 {
-        return Some(SessionFault::ElementLimit);
+        return Err(SessionFault::ElementLimit);
     }
     if free < 2048 {
-        return Some(SessionFault::FewCells);
+        return Err(SessionFault::FewCells);
     }
-    None
+    Ok(())
 }
 
-// Puts the element of two numbers at the end of the list of `root`, which is given back; the new root is the caller's.
+// Puts the element of a piece at the end of the list of `root`, which is given back; the new root is the caller's.
 // Where that is refused, nothing changes.
 pub fn lay<K: Kind>(
     kind: &K,
     cells: &mut [Cell<K::Element, K::Summary>],
     pool: &mut Pool,
     root: u32,
-    first: u32,
-    second: u32,
+    piece: Piece,
 ) -> Result<u32, SessionFault>
     requires owns { Owns (K.meaning kind.now) cells.old pool.old (root ∷ []) [] (2 ^ 14) }
     requires few { length (list cells.old root) ≤ element_limit }
     ensures { MatchResult result
-        (Lays (K.meaning kind.now) cells.old pool.old root first second cells.new pool.new)
-        (Refuses (K.meaning kind.now) (not_laid (K.meaning kind.now) (list cells.old root) pool.old.free first second)
+        (Lays (K.meaning kind.now) cells.old pool.old root piece cells.new pool.new)
+        (Refuses (K.meaning kind.now) (not_laid (K.meaning kind.now) (list cells.old root) pool.old.free piece)
         cells.old pool.old cells.new pool.new) }
 {
-    let element = kind.make(first, second)?;
-    let end = width_at(kind, cells, root);
+    let element = kind.make(piece.first, piece.second)?;
+    let end = extent_at(kind, cells, root);
     let extent = end + kind.extent(element);
     let elements = count_at(cells, root) + 1;
-    if let Some(fault) = no_room(extent, elements, pool.free) {
-        return Err(fault);
-    }
+    room(extent, elements, pool.free)?;
     let r = insert(kind, cells, pool, root, end, element);
     release(kind, cells, pool, root);
     Ok(r)
@@ -69,23 +67,21 @@ pub fn lay_all<K: Kind>(
     ensures { LaysAll (K.meaning kind.now) cells.old pool.old pieces.now cells.new pool.new result }
 {
     let mut root = NONE;
-    let mut laid = 0;
-    for piece in pieces {
-        match lay(kind, cells, pool, root, piece.first, piece.second) {
+    for (laid, piece) in pieces.iter().enumerate() {
+        match lay(kind, cells, pool, root, *piece) {
             Ok(r) => root = r,
             Err(fault) => {
                 return Laid {
                     root,
                     laid,
-                    stop: Some(fault),
+                    done: Err(fault),
                 };
             }
         }
-        laid += 1;
     }
     Laid {
         root,
-        laid,
-        stop: None,
+        laid: pieces.len(),
+        done: Ok(()),
     }
 }

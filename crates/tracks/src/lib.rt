@@ -2,17 +2,21 @@
 #![tactic(auto)]
 
 mod columns;
+mod filling;
 mod laying;
 mod moving;
 mod piece;
 mod pile;
 mod rearranging;
+mod shift;
 mod version;
 
 pub use columns::{columns_of, stretch};
+pub use filling::blank;
 pub use laying::{lay, lay_all};
 pub use moving::{put_in, take_out};
 pub use piece::{Laid, Piece};
-pub use pile::{Shift, rearrange_pile, rearrange_tempo};
+pub use pile::{rearrange_pile, rearrange_tempo};
 pub use rearranging::rearrange;
+pub use shift::Shift;
 pub use version::{Rearranged, Version};

@@ -5,12 +5,11 @@ ghost use Rattle.flat.specs.Refusals.{element_limit};
 ghost use Rattle.edits.specs.Edits.{list, edit_takes};
 ghost use Rattle.tracks.specs.Moving.{not_taken, not_put, TakesOut, PutsIn, Declines};
 
-use crate::laying::no_room;
+use crate::laying::room;
 use cells::{Cell, Pool, count_at, release};
-use edits::{Removal, cut, put};
+use edits::{Removal, cut, extent_at, put};
 use faults::SessionFault;
 use kinds::Kind;
-use walks::width_at;
 
 // Takes a range out of the list of `root`, which stays. How many elements would be left is known only once they are, so
 // what was made is given back where they are too many.
@@ -33,12 +32,12 @@ pub fn take_out<K: Kind>(
     if len == 0 {
         return Err(SessionFault::EmptyRange);
     }
-    if from as u64 + len as u64 > width_at(kind, cells, root) as u64 {
+    if from as u64 + len as u64 > extent_at(kind, cells, root) as u64 {
         return Err(SessionFault::RangePastEnd);
     }
     let free = pool.free;
     let r = cut(kind, cells, pool, root, from, len);
-    if let Some(fault) = no_room(0, count_at(cells, r.left), free) {
+    if let Err(fault) = room(0, count_at(cells, r.left), free) {
         release(kind, cells, pool, r.left);
         release(kind, cells, pool, r.taken);
         return Err(fault);
@@ -62,7 +61,7 @@ pub fn put_in<K: Kind>(
         (Declines (K.meaning kind.now) (not_put (K.meaning kind.now) (list cells.old root) (list cells.old clip) pool.old.free place)
         cells.old pool.old cells.new pool.new) }
 {
-    let end = width_at(kind, cells, root);
+    let end = extent_at(kind, cells, root);
     if place > end {
         return Err(SessionFault::BeyondEnd);
     }
@@ -70,14 +69,12 @@ pub fn put_in<K: Kind>(
     if more == 0 {
         return Err(SessionFault::ClipboardEmpty);
     }
-    let extent = end + width_at(kind, cells, clip);
+    let extent = end + extent_at(kind, cells, clip);
     let elements = count_at(cells, root).saturating_add(more);
-    if let Some(fault) = no_room(extent, elements, 2048) {
-        return Err(fault);
-    }
+    room(extent, elements, 2048)?;
     let free = pool.free;
     let r = put(kind, cells, pool, root, place, clip);
-    if let Some(fault) = no_room(0, count_at(cells, r), free) {
+    if let Err(fault) = room(0, count_at(cells, r), free) {
         release(kind, cells, pool, r);
         return Err(fault);
     }

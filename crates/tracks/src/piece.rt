@@ -7,10 +7,10 @@ pub struct Piece {
     pub second: u32,
 }
 
-// A track of pieces: its root, how many were laid, and why no more.
+// A track of pieces: its root, how many were laid, and why no more where those were not all.
 #[derive(Clone, Copy)]
 pub struct Laid {
     pub root: u32,
     pub laid: usize,
-    pub stop: Option<SessionFault>,
+    pub done: Result<(), SessionFault>,
 }

@@ -2,30 +2,19 @@
 ghost use Rattle.std.specs.Prelude.{length, MatchResult};
 ghost use Rattle.audio.specs.Audio.{audio};
 ghost use Rattle.tempo.specs.Tempo.{tempo};
-ghost use Rattle.reels.specs.MuLaw.{mu_law_refusal};
-ghost use Rattle.reels.specs.Pcm.{pcm_refusal};
-ghost use Rattle.profile.specs.Piles.{pile};
+ghost use Rattle.reels.specs.Piles.{pile, pile_refusal};
 ghost use Rattle.tracks.specs.Moving.{NotRearranged, NotOver, Rearranges};
 
 use crate::piece::Piece;
 use crate::rearranging::rearrange;
+use crate::shift::Shift;
 use crate::version::Rearranged;
 use audio::{Audio, Clip, Levels};
 use cells::Cell;
 use profile::SurveyFault;
-use reels::{Gain, Joined, MuLaw, Pcm};
+use reels::piled;
 use std::alloc::Global;
 use tempo::{Beats, Span, Tempo};
-
-// What is moved, and what is seen of it: `len` atoms from the place `from` on, to the place `to` of what is left, in so
-// many columns.
-#[derive(Clone, Copy)]
-pub struct Shift {
-    pub from: u32,
-    pub len: u32,
-    pub to: u32,
-    pub columns: u32,
-}
 
 // A track over a PCM reel and a mu-law reel, joined, under a gain.
 pub fn rearrange_pile(
@@ -38,23 +27,12 @@ pub fn rearrange_pile(
     shift: Shift,
 ) -> Result<Rearranged<Levels>, SurveyFault>
     ensures { MatchResult result
-        (Rearranges (audio (pile first.now second.now gain)) pieces.now shift.from shift.len shift.to (length cells.old) shift.columns)
-        (NotOver (pcm_refusal first.now) (mu_law_refusal second.now)
-        (NotRearranged (audio (pile first.now second.now gain)) (length cells.old) pieces.now shift.from shift.len shift.to)) }
+        (Rearranges (audio (pile first.now second.now gain)) pieces.now shift (length cells.old))
+        (NotOver (pile_refusal first.now second.now)
+        (NotRearranged (audio (pile first.now second.now gain)) (length cells.old) pieces.now shift)) }
 {
-    let pcm = Pcm::new(first)?;
-    let mulaw = MuLaw::new(second)?;
-    let kind = Audio::new(Gain::new(Joined::new(pcm, mulaw), gain));
-    rearrange(
-        heap,
-        &kind,
-        cells,
-        pieces,
-        shift.from,
-        shift.len,
-        shift.to,
-        shift.columns,
-    )
+    let kind = Audio::new(piled(first, second, gain)?);
+    rearrange(heap, &kind, cells, pieces, shift)
 }
 
 // A track of tempos.
@@ -65,14 +43,8 @@ pub fn rearrange_tempo(
     shift: Shift,
 ) -> Result<Rearranged<Beats>, SurveyFault>
     ensures { MatchResult result
-        (Rearranges tempo pieces.now shift.from shift.len shift.to (length cells.old) shift.columns)
-        (NotRearranged tempo (length cells.old) pieces.now shift.from shift.len shift.to) }
+        (Rearranges tempo pieces.now shift (length cells.old))
+        (NotRearranged tempo (length cells.old) pieces.now shift) }
 {
-    let Shift {
-        from,
-        len,
-        to,
-        columns,
-    } = shift;
-    rearrange(heap, &Tempo, cells, pieces, from, len, to, columns)
+    rearrange(heap, &Tempo, cells, pieces, shift)
 }

@@ -18,14 +18,18 @@ pub struct Rearranged<S> {
     pub free: u32,
 }
 
-// The roots of those versions and of the range, and how many cells each step took.
+// The root of a version, and how many cells it took.
+#[derive(Clone, Copy)]
+pub struct Made {
+    pub root: u32,
+    pub took: u32,
+}
+
+// Those versions and the root of the range, while all are kept.
 #[derive(Clone, Copy)]
 pub struct Versions {
-    pub laid: u32,
-    pub left: u32,
+    pub laid: Made,
+    pub left: Made,
     pub range: u32,
-    pub moved: u32,
-    pub laid_took: u32,
-    pub cut_took: u32,
-    pub moved_took: u32,
+    pub moved: Made,
 }

@@ -1,35 +1,45 @@
 use Rattle.std.proofs.Common.{◌++◌}
 use Rattle.splits.specs.Splitting.{loose_roots}
-use Rattle.edits.proofs.Ranges.{first_owns, first_few, first_some, before_arena, before_few, second_owns, second_few, second_short, second_some, last_owns, last_few, copies}
+use Rattle.edits.proofs.Ranges.{ranging, first_owns, first_few, first_some, before_arena, before_few, second_owns, second_few, second_short, second_some, last_owns, last_few, copies}
 use Rattle.edits.proofs.editing.copy.Goals as goal
 
 pub part-first-requires : goal.part-first-requires
-part-first-requires g c = record {
-  owns = first_owns (g.K.Kind.meaning c.args.kind.now) (g.K.Kind.laws c.args.kind.now) c.args.cells.now c.args.pool.now c.args.root c.args.from c.args.len c.requires.owns c.requires.few;
-  few = first_few (g.K.Kind.meaning c.args.kind.now) (g.K.Kind.laws c.args.kind.now) c.args.cells.now c.args.pool.now c.args.root c.args.from c.args.len c.requires.owns c.requires.few;
-  some = first_some (g.K.Kind.meaning c.args.kind.now) (g.K.Kind.laws c.args.kind.now) c.args.cells.now c.args.pool.now c.args.root c.args.from c.args.len c.requires.owns c.requires.few c.requires.some;
-}
+part-first-requires g c =
+    let at = ranging (g.K.Kind.laws c.args.kind.now) c.requires.owns c.requires.few in
+    record {
+      owns = first_owns at c.args.from c.args.len;
+      few = first_few at c.args.from c.args.len;
+      some = first_some at c.args.from c.args.len c.requires.some;
+    }
 
 pub release-requires : goal.release-requires
-release-requires g c = record {
-  owned = (loose_roots c.part-first.result.loose ++ c.requires.owns.rest, before_arena (g.K.Kind.meaning c.args.kind.now) (g.K.Kind.laws c.args.kind.now) c.args.cells.now c.args.pool.now c.args.root c.args.from c.args.len c.requires.owns c.requires.few c.part-first.new.cells c.part-first.new.pool c.part-first.result c.part-first.ensures.splits);
-  few = before_few (g.K.Kind.meaning c.args.kind.now) (g.K.Kind.laws c.args.kind.now) c.args.cells.now c.args.pool.now c.args.root c.args.from c.args.len c.requires.owns c.requires.few c.part-first.new.cells c.part-first.new.pool c.part-first.result c.part-first.ensures.splits;
-}
+release-requires g c =
+    let at = ranging (g.K.Kind.laws c.args.kind.now) c.requires.owns c.requires.few in
+    record {
+      owned = (loose_roots c.part-first.result.loose ++ c.requires.owns.rest, before_arena at c.args.from c.args.len c.part-first.ensures.splits);
+      few = before_few at c.args.from c.args.len c.part-first.ensures.splits;
+    }
 
 pub part_rest-second-requires : goal.part_rest-second-requires
-part_rest-second-requires g c = record {
-  owns = second_owns (g.K.Kind.meaning c.args.kind.now) (g.K.Kind.laws c.args.kind.now) c.args.cells.now c.args.pool.now c.args.root c.args.from c.args.len c.requires.owns c.requires.few c.part-first.new.cells c.part-first.new.pool c.part-first.result c.part-first.ensures.splits c.release.new.cells c.release.new.pool c.release.ensures;
-  tied = c.part-first.ensures.splits.tied;
-  few = second_few (g.K.Kind.meaning c.args.kind.now) (g.K.Kind.laws c.args.kind.now) c.args.cells.now c.args.pool.now c.args.root c.args.from c.args.len c.requires.owns c.requires.few c.part-first.new.cells c.part-first.new.pool c.part-first.result c.part-first.ensures.splits c.release.new.cells c.release.new.pool c.release.ensures;
-  short = second_short (g.K.Kind.meaning c.args.kind.now) (g.K.Kind.laws c.args.kind.now) c.args.cells.now c.args.pool.now c.args.root c.args.from c.args.len c.requires.owns c.requires.few c.part-first.new.cells c.part-first.new.pool c.part-first.result c.part-first.ensures.splits c.release.new.cells c.release.new.pool c.release.ensures;
-  some = second_some (g.K.Kind.meaning c.args.kind.now) (g.K.Kind.laws c.args.kind.now) c.args.cells.now c.args.pool.now c.args.root c.args.from c.args.len c.requires.owns c.requires.few c.part-first.new.cells c.part-first.new.pool c.part-first.result c.part-first.ensures.splits c.release.new.cells c.release.new.pool c.release.ensures c.requires.some;
-}
+part_rest-second-requires g c =
+    let at = ranging (g.K.Kind.laws c.args.kind.now) c.requires.owns c.requires.few in
+    record {
+      owns = second_owns at c.args.from c.args.len c.part-first.ensures.splits c.release.new.cells c.release.new.pool c.release.ensures;
+      tied = c.part-first.ensures.splits.tied;
+      few = second_few at c.args.from c.args.len c.part-first.ensures.splits c.release.new.cells c.release.new.pool c.release.ensures;
+      short = second_short at c.args.from c.args.len c.part-first.ensures.splits c.release.new.cells c.release.new.pool c.release.ensures;
+      some = second_some at c.args.from c.args.len c.part-first.ensures.splits c.release.new.cells c.release.new.pool c.release.ensures c.requires.some;
+    }
 
 pub let_go-requires : goal.let_go-requires
-let_go-requires g c = record {
-  owns = last_owns (g.K.Kind.meaning c.args.kind.now) (g.K.Kind.laws c.args.kind.now) c.args.cells.now c.args.pool.now c.args.root c.args.from c.args.len c.requires.owns c.requires.few c.part-first.new.cells c.part-first.new.pool c.part-first.result c.part-first.ensures.splits c.release.new.cells c.release.new.pool c.release.ensures c.part_rest-second.new.cells c.part_rest-second.new.pool c.part_rest-second.result c.part_rest-second.ensures.splits;
-  few = last_few (g.K.Kind.meaning c.args.kind.now) (g.K.Kind.laws c.args.kind.now) c.args.cells.now c.args.pool.now c.args.root c.args.from c.args.len c.requires.owns c.requires.few c.part-first.new.cells c.part-first.new.pool c.part-first.result c.part-first.ensures.splits c.release.new.cells c.release.new.pool c.release.ensures c.part_rest-second.new.cells c.part_rest-second.new.pool c.part_rest-second.result c.part_rest-second.ensures.splits;
-}
+let_go-requires g c =
+    let at = ranging (g.K.Kind.laws c.args.kind.now) c.requires.owns c.requires.few in
+    record {
+      owns = last_owns at c.args.from c.args.len c.part-first.ensures.splits c.release.new.cells c.release.new.pool c.release.ensures c.part_rest-second.ensures.splits;
+      few = last_few at c.args.from c.args.len c.part-first.ensures.splits c.release.new.cells c.release.new.pool c.release.ensures c.part_rest-second.ensures.splits;
+    }
 
 pub returns : goal.returns
-returns g c = copies (g.K.Kind.meaning c.args.kind.now) (g.K.Kind.laws c.args.kind.now) c.args.cells.now c.args.pool.now c.args.root c.args.from c.args.len c.requires.owns c.requires.few c.part-first.new.cells c.part-first.new.pool c.part-first.result c.part-first.ensures.splits c.release.new.cells c.release.new.pool c.release.ensures c.part_rest-second.new.cells c.part_rest-second.new.pool c.part_rest-second.result c.part_rest-second.ensures.splits c.let_go.new.cells c.let_go.new.pool c.let_go.ensures
+returns g c =
+    let at = ranging (g.K.Kind.laws c.args.kind.now) c.requires.owns c.requires.few in
+    copies at c.args.from c.args.len c.part-first.ensures.splits c.release.new.cells c.release.new.pool c.release.ensures c.part_rest-second.ensures.splits c.let_go.new.cells c.let_go.new.pool c.let_go.ensures

@@ -3,11 +3,13 @@ use Rattle.edits.proofs.Ones.{one_owned, one_fits, makes_one}
 use Rattle.edits.proofs.editing.single.Goals as goal
 
 pub make-requires : goal.make-requires
-make-requires g c = record {
-  owned = (c.requires.owns.rest, one_owned (g.K.Kind.meaning c.args.kind.now) (g.K.Kind.laws c.args.kind.now) c.args.cells.now c.args.pool.now c.requires.owns 4294967295 (lit≤ tt) (record { element = c.args.element; own = c.summary.result }));
-  fits = one_fits (g.K.Kind.meaning c.args.kind.now) (g.K.Kind.laws c.args.kind.now) c.args.cells.now c.args.pool.now c.requires.owns 4294967295 (lit≤ tt) (record { element = c.args.element; own = c.summary.result }) c.requires.lawful (c.summary.ensures c.requires.lawful);
-  some = c.requires.some;
-}
+make-requires g c =
+    let whole = c.of.ensures.whole c.requires.lawful in
+    record {
+      owned = (c.requires.owns.rest, one_owned (g.K.Kind.laws c.args.kind.now) c.requires.owns 4294967295 (lit≤ tt) whole);
+      fits = one_fits (g.K.Kind.laws c.args.kind.now) c.requires.owns 4294967295 (lit≤ tt) whole;
+      some = c.requires.some;
+    }
 
 pub returns : goal.returns
-returns g c = makes_one (g.K.Kind.meaning c.args.kind.now) (g.K.Kind.laws c.args.kind.now) c.args.cells.now c.args.pool.now c.requires.owns 4294967295 (lit≤ tt) (record { element = c.args.element; own = c.summary.result }) c.make.new.cells c.make.new.pool c.make.result c.make.ensures.yields
+returns g c = makes_one (g.K.Kind.laws c.args.kind.now) c.requires.owns 4294967295 (lit≤ tt) (c.of.ensures.whole c.requires.lawful) c.of.ensures.element c.make.new.cells c.make.new.pool c.make.result c.make.ensures.yields

@@ -3,16 +3,16 @@ use Rattle.paces.proofs.Runs.{none_owned, run_owns, end_arena, end_light, all_ba
 use Rattle.paces.proofs.entry.run.Goals as goal
 
 pub lay_all-laid-requires : goal.lay_all-laid-requires
-lay_all-laid-requires g c = none_owned (g.K.Kind.meaning c.args.kind.now) c.start-pool.new.cells c.start-pool.result c.start-pool.ensures.arena
+lay_all-laid-requires g c = none_owned c.start-pool.ensures.arena
 
 pub worked-sum-requires : goal.worked-sum-requires
-worked-sum-requires g c = record { owns = run_owns (g.K.Kind.meaning c.args.kind.now) c.start-pool.new.cells c.start-pool.result c.start-pool.ensures.arena c.args.pieces.now c.lay_all-laid.new.cells c.lay_all-laid.new.pool c.lay_all-laid.result c.lay_all-laid.ensures; few = c.lay_all-laid.ensures.few }
+worked-sum-requires g c = record { owns = run_owns c.start-pool.ensures.arena c.lay_all-laid.ensures; few = c.lay_all-laid.ensures.few }
 
 pub release-requires : goal.release-requires
-release-requires g c = record { owned = ([], end_arena (g.K.Kind.meaning c.args.kind.now) c.start-pool.new.cells c.start-pool.result c.start-pool.ensures.arena c.args.pieces.now c.lay_all-laid.new.cells c.lay_all-laid.new.pool c.lay_all-laid.result c.lay_all-laid.ensures c.worked-sum.new.cells c.worked-sum.new.pool c.worked-sum.ensures); few = end_light (g.K.Kind.meaning c.args.kind.now) c.start-pool.new.cells c.start-pool.result c.start-pool.ensures.arena c.args.pieces.now c.lay_all-laid.new.cells c.lay_all-laid.new.pool c.lay_all-laid.result c.lay_all-laid.ensures c.worked-sum.new.cells c.worked-sum.new.pool c.worked-sum.ensures }
+release-requires g c = record { owned = ([], end_arena c.start-pool.ensures.arena c.lay_all-laid.ensures c.worked-sum.ensures); few = end_light c.start-pool.ensures.arena c.lay_all-laid.ensures c.worked-sum.ensures }
 
 pub returns : goal.returns
 returns g c =
     let long : length c.release.new.cells ≡ length c.start-pool.new.cells = search rules in
-    let all = all_back (g.K.Kind.meaning c.args.kind.now) c.start-pool.new.cells c.start-pool.result c.start-pool.ensures.arena c.args.pieces.now c.lay_all-laid.new.cells c.lay_all-laid.new.pool c.lay_all-laid.result c.lay_all-laid.ensures c.worked-sum.new.cells c.worked-sum.new.pool c.worked-sum.ensures c.release.new.cells c.release.new.pool c.release.ensures long in
+    let all = all_back c.start-pool.ensures.arena c.lay_all-laid.ensures c.worked-sum.ensures c.release.new.cells c.release.new.pool c.release.ensures long in
     omega (arith, c.free.ensures.0, c.start-pool.ensures.free, c.requires)

@@ -1,19 +1,36 @@
-use Rattle.std.proofs.Common.{◌^◌, [], ◌∷◌, length, ap, arith}
+use Rattle.std.proofs.Common.{length, ap, arith}
 use Rattle.kinds.specs.Places.{extent_of}
 use Rattle.cells.proofs.Names.{hit_same}
-use Rattle.paces.proofs.Onces.{lent_live, rests_owns, rests_list, rests_free, rests_then}
+use Rattle.edits.specs.Edits.{list}
+use Rattle.edits.proofs.Roots.{lent_live}
+use Rattle.paces.specs.Sums.{step, put_from}
+use Rattle.paces.proofs.Sums.{left_more, sum_more, put_told}
+use Rattle.paces.proofs.Onces.{rests_owns, rests_list, rests_free, rests_then}
 use Rattle.paces.proofs.rounds.puts.Goals as goal
 
-pub width_at-end-requires : goal.width_at-end-requires
-width_at-end-requires g c = record { sound = c.requires.owns.arena.sound; live = lent_live (g.K.Kind.meaning c.args.kind.now) c.args.cells.now c.args.pool.now (c.args.root ∷ c.args.clip ∷ []) (2 ^ 15) c.requires.owns c.args.root (let h = hit_same c.args.root in omega arith) }
+pub extent_at-end-requires : goal.extent_at-end-requires
+extent_at-end-requires g c = record { sound = c.requires.owns.arena.sound; live = lent_live c.requires.owns }
 
 pub put_once-n-requires : goal.put_once-n-requires
-put_once-n-requires g c = record {
-  owns = rests_owns (g.K.Kind.meaning c.args.kind.now) c.args.cells.now c.args.pool.now (c.args.root ∷ c.args.clip ∷ []) (2 ^ 15) c.requires.owns c.loop.cells c.loop.pool c.loop.invariant;
-  few = omega (arith, c.requires.few, ap length (rests_list (g.K.Kind.meaning c.args.kind.now) c.args.cells.now c.args.pool.now (c.args.root ∷ c.args.clip ∷ []) (2 ^ 15) c.requires.owns c.loop.cells c.loop.pool c.loop.invariant c.args.root (let h = hit_same c.args.root in omega arith)), ap length (rests_list (g.K.Kind.meaning c.args.kind.now) c.args.cells.now c.args.pool.now (c.args.root ∷ c.args.clip ∷ []) (2 ^ 15) c.requires.owns c.loop.cells c.loop.pool c.loop.invariant c.args.clip (let h = hit_same c.args.clip in omega arith)));
-  short = omega (arith, c.requires.short, ap (extent_of (g.K.Kind.meaning c.args.kind.now)) (rests_list (g.K.Kind.meaning c.args.kind.now) c.args.cells.now c.args.pool.now (c.args.root ∷ c.args.clip ∷ []) (2 ^ 15) c.requires.owns c.loop.cells c.loop.pool c.loop.invariant c.args.root (let h = hit_same c.args.root in omega arith)), ap (extent_of (g.K.Kind.meaning c.args.kind.now)) (rests_list (g.K.Kind.meaning c.args.kind.now) c.args.cells.now c.args.pool.now (c.args.root ∷ c.args.clip ∷ []) (2 ^ 15) c.requires.owns c.loop.cells c.loop.pool c.loop.invariant c.args.clip (let h = hit_same c.args.clip in omega arith)));
-  some = omega (arith, c.requires.some, rests_free (g.K.Kind.meaning c.args.kind.now) c.args.cells.now c.args.pool.now (c.args.root ∷ c.args.clip ∷ []) (2 ^ 15) c.requires.owns c.loop.cells c.loop.pool c.loop.invariant);
-}
+put_once-n-requires g c =
+    let root = rests_list c.requires.owns c.loop.invariant.rests c.args.root (let h = hit_same c.args.root in omega arith) in
+    let clip = rests_list c.requires.owns c.loop.invariant.rests c.args.clip (let h = hit_same c.args.clip in omega arith) in
+    record {
+      owns = rests_owns c.requires.owns c.loop.invariant.rests;
+      few = omega (arith, c.requires.few, ap length root, ap length clip);
+      short = omega (arith, c.requires.short, ap (extent_of (g.K.Kind.meaning c.args.kind.now)) root, ap (extent_of (g.K.Kind.meaning c.args.kind.now)) clip);
+      some = omega (arith, c.requires.some, rests_free c.requires.owns c.loop.invariant.rests);
+    }
 
 pub loop-preserved : goal.loop-preserved
-loop-preserved g c = rests_then (g.K.Kind.meaning c.args.kind.now) c.args.cells.now c.args.pool.now c.loop.cells c.loop.pool c.put_once-n.new.cells c.put_once-n.new.pool c.loop.invariant c.put_once-n.ensures
+loop-preserved g c =
+    let k = g.K.Kind.meaning c.args.kind.now in
+    let root = rests_list c.requires.owns c.loop.invariant.rests c.args.root (let h = hit_same c.args.root in omega arith) in
+    let clip = rests_list c.requires.owns c.loop.invariant.rests c.args.clip (let h = hit_same c.args.clip in omega arith) in
+    let end = c.extent_at-end.ensures in
+    let gives = put_from k (list c.args.cells.now c.args.root) (list c.args.cells.now c.args.clip) in
+    record {
+      rests = rests_then k c.args.cells.now c.args.pool.now c.loop.cells c.loop.pool c.put_once-n.new.cells c.put_once-n.new.pool c.loop.invariant.rests c.put_once-n.ensures.rests;
+      state = left_more step gives c.loop.counter c.loop.invariant.state c.next.ensures.state;
+      sum = sum_more step gives c.loop.counter c.loop.invariant.state c.loop.invariant.sum (put_told k root end c.loop.places.state c.next.ensures.state c.next.ensures.place clip c.put_once-n.ensures.count);
+    }

@@ -1,5 +1,12 @@
+use Rattle.std.proofs.Common.{◌≡◌}
+use Rattle.edits.specs.Edits.{list}
 use Rattle.paces.specs.Rests.{Rests}
+use Rattle.paces.specs.Sums.{step, left_by, put_counts}
 use Rattle.paces.proofs.rounds.puts.Given as goal
 
 abbrev pub invariant-loop : goal.invariant-loop
-invariant-loop g l = Rests (g.K.Kind.meaning l.kind) l.initial.cells l.initial.pool l.cells l.pool
+invariant-loop g l = record {
+  rests : Rests (g.K.Kind.meaning l.kind) l.initial.cells l.initial.pool l.cells l.pool;
+  state : l.places.state ≡ left_by step l.counter;
+  sum : l.sum ≡ put_counts (g.K.Kind.meaning l.kind) (list l.initial.cells l.root) (list l.initial.cells l.clip) l.counter;
+}

@@ -1,31 +1,30 @@
-use Rattle.std.proofs.Common.{[], ◌∷◌, arith}
-use Rattle.cells.proofs.Names.{hit_same}
-use Rattle.tracks.proofs.Versions.{top_few, without_top, still_few}
+use Rattle.tracks.proofs.Versions.{held_owned, held_few, held_less}
 use Rattle.tracks.proofs.rearranging.let_go.Goals as goal
 
 pub release-requires : goal.release-requires
-release-requires g c = record {
-  owned = ((c.args.v.left ∷ c.args.v.range ∷ c.args.v.laid ∷ []), c.requires.arena);
-  few = top_few (g.K.Kind.meaning c.args.kind.now) c.args.cells.now c.args.pool.now c.args.v.moved (c.args.v.left ∷ c.args.v.range ∷ c.args.v.laid ∷ []) c.requires.arena c.requires.moved;
-}
+release-requires g c = record { owned = held_owned c.requires; few = held_few c.requires }
 
 pub release-requires-2 : goal.release-requires-2
-release-requires-2 g c = record {
-  owned = ((c.args.v.range ∷ c.args.v.laid ∷ []), (without_top (g.K.Kind.meaning c.args.kind.now) c.args.cells.now c.args.pool.now c.args.v.moved (c.args.v.left ∷ c.args.v.range ∷ c.args.v.laid ∷ []) c.requires.arena c.release.new.cells c.release.new.pool c.release.ensures));
-  few = top_few (g.K.Kind.meaning c.args.kind.now) c.release.new.cells c.release.new.pool c.args.v.left (c.args.v.range ∷ c.args.v.laid ∷ []) (without_top (g.K.Kind.meaning c.args.kind.now) c.args.cells.now c.args.pool.now c.args.v.moved (c.args.v.left ∷ c.args.v.range ∷ c.args.v.laid ∷ []) c.requires.arena c.release.new.cells c.release.new.pool c.release.ensures) (still_few (g.K.Kind.meaning c.args.kind.now) c.args.cells.now c.args.pool.now c.args.v.moved (c.args.v.left ∷ c.args.v.range ∷ c.args.v.laid ∷ []) c.requires.arena c.release.new.cells c.release.new.pool c.release.ensures c.args.v.left (let h = hit_same c.args.v.left in omega arith) c.requires.left);
-}
+release-requires-2 g c =
+    let h = held_less c.requires c.release.new.cells c.release.new.pool c.release.ensures in
+    record { owned = held_owned h; few = held_few h }
 
 pub release-requires-3 : goal.release-requires-3
-release-requires-3 g c = record {
-  owned = ((c.args.v.laid ∷ []), (without_top (g.K.Kind.meaning c.args.kind.now) c.release.new.cells c.release.new.pool c.args.v.left (c.args.v.range ∷ c.args.v.laid ∷ []) (without_top (g.K.Kind.meaning c.args.kind.now) c.args.cells.now c.args.pool.now c.args.v.moved (c.args.v.left ∷ c.args.v.range ∷ c.args.v.laid ∷ []) c.requires.arena c.release.new.cells c.release.new.pool c.release.ensures) c.release-2.new.cells c.release-2.new.pool c.release-2.ensures));
-  few = top_few (g.K.Kind.meaning c.args.kind.now) c.release-2.new.cells c.release-2.new.pool c.args.v.range (c.args.v.laid ∷ []) (without_top (g.K.Kind.meaning c.args.kind.now) c.release.new.cells c.release.new.pool c.args.v.left (c.args.v.range ∷ c.args.v.laid ∷ []) (without_top (g.K.Kind.meaning c.args.kind.now) c.args.cells.now c.args.pool.now c.args.v.moved (c.args.v.left ∷ c.args.v.range ∷ c.args.v.laid ∷ []) c.requires.arena c.release.new.cells c.release.new.pool c.release.ensures) c.release-2.new.cells c.release-2.new.pool c.release-2.ensures) (still_few (g.K.Kind.meaning c.args.kind.now) c.release.new.cells c.release.new.pool c.args.v.left (c.args.v.range ∷ c.args.v.laid ∷ []) (without_top (g.K.Kind.meaning c.args.kind.now) c.args.cells.now c.args.pool.now c.args.v.moved (c.args.v.left ∷ c.args.v.range ∷ c.args.v.laid ∷ []) c.requires.arena c.release.new.cells c.release.new.pool c.release.ensures) c.release-2.new.cells c.release-2.new.pool c.release-2.ensures c.args.v.range (let h = hit_same c.args.v.range in omega arith) (still_few (g.K.Kind.meaning c.args.kind.now) c.args.cells.now c.args.pool.now c.args.v.moved (c.args.v.left ∷ c.args.v.range ∷ c.args.v.laid ∷ []) c.requires.arena c.release.new.cells c.release.new.pool c.release.ensures c.args.v.range (let h = hit_same c.args.v.range in omega arith) c.requires.range));
-}
+release-requires-3 g c =
+    let h = held_less c.requires c.release.new.cells c.release.new.pool c.release.ensures in
+    let i = held_less h c.release-2.new.cells c.release-2.new.pool c.release-2.ensures in
+    record { owned = held_owned i; few = held_few i }
 
 pub release-requires-4 : goal.release-requires-4
-release-requires-4 g c = record {
-  owned = (([]), (without_top (g.K.Kind.meaning c.args.kind.now) c.release-2.new.cells c.release-2.new.pool c.args.v.range (c.args.v.laid ∷ []) (without_top (g.K.Kind.meaning c.args.kind.now) c.release.new.cells c.release.new.pool c.args.v.left (c.args.v.range ∷ c.args.v.laid ∷ []) (without_top (g.K.Kind.meaning c.args.kind.now) c.args.cells.now c.args.pool.now c.args.v.moved (c.args.v.left ∷ c.args.v.range ∷ c.args.v.laid ∷ []) c.requires.arena c.release.new.cells c.release.new.pool c.release.ensures) c.release-2.new.cells c.release-2.new.pool c.release-2.ensures) c.release-3.new.cells c.release-3.new.pool c.release-3.ensures));
-  few = top_few (g.K.Kind.meaning c.args.kind.now) c.release-3.new.cells c.release-3.new.pool c.args.v.laid ([]) (without_top (g.K.Kind.meaning c.args.kind.now) c.release-2.new.cells c.release-2.new.pool c.args.v.range (c.args.v.laid ∷ []) (without_top (g.K.Kind.meaning c.args.kind.now) c.release.new.cells c.release.new.pool c.args.v.left (c.args.v.range ∷ c.args.v.laid ∷ []) (without_top (g.K.Kind.meaning c.args.kind.now) c.args.cells.now c.args.pool.now c.args.v.moved (c.args.v.left ∷ c.args.v.range ∷ c.args.v.laid ∷ []) c.requires.arena c.release.new.cells c.release.new.pool c.release.ensures) c.release-2.new.cells c.release-2.new.pool c.release-2.ensures) c.release-3.new.cells c.release-3.new.pool c.release-3.ensures) (still_few (g.K.Kind.meaning c.args.kind.now) c.release-2.new.cells c.release-2.new.pool c.args.v.range (c.args.v.laid ∷ []) (without_top (g.K.Kind.meaning c.args.kind.now) c.release.new.cells c.release.new.pool c.args.v.left (c.args.v.range ∷ c.args.v.laid ∷ []) (without_top (g.K.Kind.meaning c.args.kind.now) c.args.cells.now c.args.pool.now c.args.v.moved (c.args.v.left ∷ c.args.v.range ∷ c.args.v.laid ∷ []) c.requires.arena c.release.new.cells c.release.new.pool c.release.ensures) c.release-2.new.cells c.release-2.new.pool c.release-2.ensures) c.release-3.new.cells c.release-3.new.pool c.release-3.ensures c.args.v.laid (let h = hit_same c.args.v.laid in omega arith) (still_few (g.K.Kind.meaning c.args.kind.now) c.release.new.cells c.release.new.pool c.args.v.left (c.args.v.range ∷ c.args.v.laid ∷ []) (without_top (g.K.Kind.meaning c.args.kind.now) c.args.cells.now c.args.pool.now c.args.v.moved (c.args.v.left ∷ c.args.v.range ∷ c.args.v.laid ∷ []) c.requires.arena c.release.new.cells c.release.new.pool c.release.ensures) c.release-2.new.cells c.release-2.new.pool c.release-2.ensures c.args.v.laid (let h = hit_same c.args.v.laid in omega arith) (still_few (g.K.Kind.meaning c.args.kind.now) c.args.cells.now c.args.pool.now c.args.v.moved (c.args.v.left ∷ c.args.v.range ∷ c.args.v.laid ∷ []) c.requires.arena c.release.new.cells c.release.new.pool c.release.ensures c.args.v.laid (let h = hit_same c.args.v.laid in omega arith) c.requires.laid)));
-}
+release-requires-4 g c =
+    let h = held_less c.requires c.release.new.cells c.release.new.pool c.release.ensures in
+    let i = held_less h c.release-2.new.cells c.release-2.new.pool c.release-2.ensures in
+    let j = held_less i c.release-3.new.cells c.release-3.new.pool c.release-3.ensures in
+    record { owned = held_owned j; few = held_few j }
 
 pub returns : goal.returns
-returns g c = (without_top (g.K.Kind.meaning c.args.kind.now) c.release-3.new.cells c.release-3.new.pool c.args.v.laid ([]) (without_top (g.K.Kind.meaning c.args.kind.now) c.release-2.new.cells c.release-2.new.pool c.args.v.range (c.args.v.laid ∷ []) (without_top (g.K.Kind.meaning c.args.kind.now) c.release.new.cells c.release.new.pool c.args.v.left (c.args.v.range ∷ c.args.v.laid ∷ []) (without_top (g.K.Kind.meaning c.args.kind.now) c.args.cells.now c.args.pool.now c.args.v.moved (c.args.v.left ∷ c.args.v.range ∷ c.args.v.laid ∷ []) c.requires.arena c.release.new.cells c.release.new.pool c.release.ensures) c.release-2.new.cells c.release-2.new.pool c.release-2.ensures) c.release-3.new.cells c.release-3.new.pool c.release-3.ensures) c.release-4.new.cells c.release-4.new.pool c.release-4.ensures)
+returns g c =
+    let h = held_less c.requires c.release.new.cells c.release.new.pool c.release.ensures in
+    let i = held_less h c.release-2.new.cells c.release-2.new.pool c.release-2.ensures in
+    let j = held_less i c.release-3.new.cells c.release-3.new.pool c.release-3.ensures in
+    (held_less j c.release-4.new.cells c.release-4.new.pool c.release-4.ensures).arena

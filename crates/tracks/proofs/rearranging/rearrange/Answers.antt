@@ -1,31 +1,22 @@
-use Rattle.std.proofs.Common.{[], ◌∷◌, map, length, ap, ◌∙◌, arith}
+use Rattle.std.proofs.Common.{[], map, length, ap, ◌∙◌, arith}
 use Rattle.std.specs.List.{range_with_len}
-use Rattle.kinds.specs.Places.{atoms_of, without}
+use Rattle.kinds.specs.Places.{atoms_of}
 use Rattle.cells.proofs.Names.{hit_same}
 use Rattle.profile.specs.Columns.{column}
-use Rattle.edits.specs.Edits.{list}
-use Rattle.tracks.specs.Laying.{made_of}
-use Rattle.tracks.specs.Moving.{rearranged}
-use Rattle.tracks.proofs.Owned.{owned_count}
-use Rattle.tracks.proofs.Versions.{few_moved, few_left, few_range, few_laid, tells_same, all_free}
+use Rattle.edits.proofs.Roots.{owned_count}
+use Rattle.tracks.proofs.Versions.{kept_held, all_free}
 use Rattle.tracks.proofs.rearranging.rearrange.Goals as goal
 
 pub let_go-requires : goal.let_go-requires
-let_go-requires g c = record {
-  arena = c.in_ok-v.ensures.arena;
-  moved = few_moved (g.K.Kind.meaning c.args.kind.now) c.args.pieces.now c.args.from c.args.len c.args.to c.keep.new.cells c.keep.new.pool c.in_ok-v.v c.in_ok-v.ensures;
-  left = few_left (g.K.Kind.meaning c.args.kind.now) c.args.pieces.now c.args.from c.args.len c.args.to c.keep.new.cells c.keep.new.pool c.in_ok-v.v c.in_ok-v.ensures;
-  range = few_range (g.K.Kind.meaning c.args.kind.now) c.args.pieces.now c.args.from c.args.len c.args.to c.keep.new.cells c.keep.new.pool c.in_ok-v.v c.in_ok-v.ensures;
-  laid = few_laid (g.K.Kind.meaning c.args.kind.now) c.args.pieces.now c.args.from c.args.len c.args.to c.keep.new.cells c.keep.new.pool c.in_ok-v.v c.in_ok-v.ensures;
-}
+let_go-requires g c = kept_held c.in_ok-v.ensures
 
 pub returns : goal.returns
 returns g c = record {
-  laid = tells_same (g.K.Kind.meaning c.args.kind.now) c.version_of-laid.result (list c.keep.new.cells c.in_ok-v.v.laid) (made_of (g.K.Kind.meaning c.args.kind.now) c.args.pieces.now) c.in_ok-v.ensures.is_laid c.version_of-laid.ensures.tells;
-  left = tells_same (g.K.Kind.meaning c.args.kind.now) c.version_of-cut.result (list c.keep.new.cells c.in_ok-v.v.left) (without (g.K.Kind.meaning c.args.kind.now) c.args.from c.args.len (made_of (g.K.Kind.meaning c.args.kind.now) c.args.pieces.now)) c.in_ok-v.ensures.is_left c.version_of-cut.ensures.tells;
-  clip = c.count_at-clip.ensures ∙ owned_count (g.K.Kind.meaning c.args.kind.now) c.keep.new.cells c.keep.new.pool (c.in_ok-v.v.moved ∷ c.in_ok-v.v.left ∷ c.in_ok-v.v.range ∷ c.in_ok-v.v.laid ∷ []) c.in_ok-v.ensures.arena c.in_ok-v.v.range (let h = hit_same c.in_ok-v.v.range in omega arith) ∙ ap length c.in_ok-v.ensures.is_range;
-  moved = tells_same (g.K.Kind.meaning c.args.kind.now) c.version_of-moved.result (list c.keep.new.cells c.in_ok-v.v.moved) (rearranged (g.K.Kind.meaning c.args.kind.now) c.args.pieces.now c.args.from c.args.len c.args.to) c.in_ok-v.ensures.is_moved c.version_of-moved.ensures.tells;
-  columns = c.in_ok-columns.ensures ∙ ap (λ l. map (column (g.K.Kind.meaning c.args.kind.now) (atoms_of (g.K.Kind.meaning c.args.kind.now) l) c.args.n) (range_with_len 0 c.args.n)) c.in_ok-v.ensures.is_moved;
+  laid = rw (← c.in_ok-v.ensures.is_laid) c.version_of-laid.ensures.tells;
+  left = rw (← c.in_ok-v.ensures.is_left) c.version_of-cut.ensures.tells;
+  clip = c.count_at-clip.ensures ∙ owned_count c.in_ok-v.ensures.arena c.in_ok-v.v.range (let h = hit_same c.in_ok-v.v.range in omega arith) ∙ ap length c.in_ok-v.ensures.is_range;
+  moved = rw (← c.in_ok-v.ensures.is_moved) c.version_of-moved.ensures.tells;
+  columns = c.in_ok-columns.ensures ∙ ap (λ l. map (column (g.K.Kind.meaning c.args.kind.now) (atoms_of (g.K.Kind.meaning c.args.kind.now) l) c.args.shift.columns) (range_with_len 0 c.args.shift.columns)) c.in_ok-v.ensures.is_moved;
   laid_took = omega (arith, c.version_of-laid.ensures.took, c.in_ok-v.ensures.laid_took);
   cut_took = omega (arith, c.version_of-cut.ensures.took, c.in_ok-v.ensures.cut_took);
   moved_took = omega (arith, c.version_of-moved.ensures.took, c.in_ok-v.ensures.moved_took);

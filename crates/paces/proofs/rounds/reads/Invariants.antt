@@ -1,0 +1,10 @@
+use Rattle.std.proofs.Common.{◌≡◌}
+use Rattle.edits.specs.Edits.{list}
+use Rattle.paces.specs.Sums.{step, left_by, offsets}
+use Rattle.paces.proofs.rounds.reads.Given as goal
+
+abbrev pub invariant-loop : goal.invariant-loop
+invariant-loop g l = record {
+  state : l.places.state ≡ left_by step l.counter;
+  sum : l.sum ≡ offsets (g.K.Kind.meaning l.kind) (list l.cells l.root) l.counter;
+}
