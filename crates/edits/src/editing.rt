@@ -19,118 +19,112 @@ use splits::{Loose, join, merge, part, part_rest};
 
 // A list of one element.
 pub fn single<K: Kind>(
-    kind: &K,
-    cells: &mut [Cell<K::Element, K::Summary>],
-    pool: &mut Pool,
+    store: &mut Store<'_, K>,
     element: K::Element,
 ) -> u32
-    requires owns { Owns (K.meaning kind.now) cells.old pool.old [] [] (2 ^ 16) }
-    requires lawful { Lawful (K.meaning kind.now) element }
-    requires some { 1 ≤ pool.old.free }
-    ensures { Makes (K.meaning kind.now) cells.old pool.old cells.new pool.new result (element ∷ []) 1 }
+    requires owns { Owns (K.meaning store.old.kind.now) store.old.cells.now store.old.pool [] [] (2 ^ 16) }
+    requires lawful { Lawful (K.meaning store.old.kind.now) element }
+    requires some { 1 ≤ store.old.pool.free }
+    ensures same { SameLoan store.old store.new }
+    ensures makes { Makes (K.meaning store.old.kind.now) store.old.cells.now store.old.pool store.new.cells.now store.new.pool result (element ∷ []) 1 }
 {
-    make(kind, cells, pool, NONE, Item::of(kind, element), NONE)
+    store.make(NONE, Item::of(store.kind, element), NONE)
 }
 
 // The list of `root` with that of `new` put in at a place.
 pub fn put<K: Kind>(
-    kind: &K,
-    cells: &mut [Cell<K::Element, K::Summary>],
-    pool: &mut Pool,
+    store: &mut Store<'_, K>,
     root: u32,
     place: u32,
     new: u32,
 ) -> u32
-    requires owns { Owns (K.meaning kind.now) cells.old pool.old [] (root ∷ new ∷ []) (2 ^ 16) }
-    requires few { length (list cells.old root) + length (list cells.old new) ≤ element_limit }
-    requires short { extent_of (K.meaning kind.now) (list cells.old root) + extent_of (K.meaning kind.now) (list cells.old new) ≤ limit }
-    requires some { edit_takes ≤ pool.old.free }
-    ensures { Makes (K.meaning kind.now) cells.old pool.old cells.new pool.new result
-        (put_at (K.meaning kind.now) place (list cells.old new) (list cells.old root)) edit_takes }
+    requires owns { Owns (K.meaning store.old.kind.now) store.old.cells.now store.old.pool [] (root ∷ new ∷ []) (2 ^ 16) }
+    requires few { length (list store.old.cells.now root) + length (list store.old.cells.now new) ≤ element_limit }
+    requires short { extent_of (K.meaning store.old.kind.now) (list store.old.cells.now root) + extent_of (K.meaning store.old.kind.now) (list store.old.cells.now new) ≤ limit }
+    requires some { edit_takes ≤ store.old.pool.free }
+    ensures same { SameLoan store.old store.new }
+    ensures makes { Makes (K.meaning store.old.kind.now) store.old.cells.now store.old.pool store.new.cells.now store.new.pool result
+        (put_at (K.meaning store.old.kind.now) place (list store.old.cells.now new) (list store.old.cells.now root)) edit_takes }
 {
-    let split = part(kind, cells, pool, root, place);
-    let front = merge(kind, cells, pool, split.before, new);
-    join(kind, cells, pool, front, split.loose)
+    let split = part(store, root, place);
+    let front = merge(store, split.before, new);
+    join(store, front, split.loose)
 }
 
 // The list of `root` with an element put in at a place.
 pub fn insert<K: Kind>(
-    kind: &K,
-    cells: &mut [Cell<K::Element, K::Summary>],
-    pool: &mut Pool,
+    store: &mut Store<'_, K>,
     root: u32,
     place: u32,
     element: K::Element,
 ) -> u32
-    requires owns { Owns (K.meaning kind.now) cells.old pool.old [] (root ∷ []) (2 ^ 15) }
-    requires lawful { Lawful (K.meaning kind.now) element }
-    requires few { length (list cells.old root) < element_limit }
-    requires short { extent_of (K.meaning kind.now) (list cells.old root) + length ((K.meaning kind.now).atoms element) ≤ limit }
-    requires some { insert_takes ≤ pool.old.free }
-    ensures { Makes (K.meaning kind.now) cells.old pool.old cells.new pool.new result
-        (put_at (K.meaning kind.now) place (element ∷ []) (list cells.old root)) insert_takes }
+    requires owns { Owns (K.meaning store.old.kind.now) store.old.cells.now store.old.pool [] (root ∷ []) (2 ^ 15) }
+    requires lawful { Lawful (K.meaning store.old.kind.now) element }
+    requires few { length (list store.old.cells.now root) < element_limit }
+    requires short { extent_of (K.meaning store.old.kind.now) (list store.old.cells.now root) + length ((K.meaning store.old.kind.now).atoms element) ≤ limit }
+    requires some { insert_takes ≤ store.old.pool.free }
+    ensures same { SameLoan store.old store.new }
+    ensures makes { Makes (K.meaning store.old.kind.now) store.old.cells.now store.old.pool store.new.cells.now store.new.pool result
+        (put_at (K.meaning store.old.kind.now) place (element ∷ []) (list store.old.cells.now root)) insert_takes }
 {
-    let one = single(kind, cells, pool, element);
-    let r = put(kind, cells, pool, root, place, one);
-    release(kind, cells, pool, one);
+    let one = single(store, element);
+    let r = put(store, root, place, one);
+    store.release(one);
     r
 }
 
 // Gives back the root behind a place, if there is one.
 fn let_go<K: Kind>(
-    kind: &K,
-    cells: &mut [Cell<K::Element, K::Summary>],
-    pool: &mut Pool,
+    store: &mut Store<'_, K>,
     rest: Option<Loose<K::Element, K::Summary>>,
 )
-    requires owns { Owns (K.meaning kind.now) cells.old pool.old (loose_roots rest) [] (2 ^ 20) }
-    requires few { count (tail (behind cells.old rest)) ≤ most }
-    ensures { Moves (K.meaning kind.now) cells.old pool.old (loose_roots rest) cells.new pool.new [] 0 }
+    requires owns { Owns (K.meaning store.old.kind.now) store.old.cells.now store.old.pool (loose_roots rest) [] (2 ^ 20) }
+    requires few { count (tail (behind store.old.cells.now rest)) ≤ most }
+    ensures same { SameLoan store.old store.new }
+    ensures moves { Moves (K.meaning store.old.kind.now) store.old.cells.now store.old.pool (loose_roots rest) store.new.cells.now store.new.pool [] 0 }
 {
     if let Some(loose) = rest {
-        release(kind, cells, pool, loose.root);
+        store.release(loose.root);
     }
 }
 
 // The range of `len` atoms from a place on, as a list of its own.
 pub fn copy<K: Kind>(
-    kind: &K,
-    cells: &mut [Cell<K::Element, K::Summary>],
-    pool: &mut Pool,
+    store: &mut Store<'_, K>,
     root: u32,
     from: u32,
     len: u32,
 ) -> u32
-    requires owns { Owns (K.meaning kind.now) cells.old pool.old [] (root ∷ []) (2 ^ 16) }
-    requires few { length (list cells.old root) ≤ element_limit }
-    requires some { copy_takes ≤ pool.old.free }
-    ensures { Makes (K.meaning kind.now) cells.old pool.old cells.new pool.new result
-        (taken (K.meaning kind.now) from len (list cells.old root)) copy_takes }
+    requires owns { Owns (K.meaning store.old.kind.now) store.old.cells.now store.old.pool [] (root ∷ []) (2 ^ 16) }
+    requires few { length (list store.old.cells.now root) ≤ element_limit }
+    requires some { copy_takes ≤ store.old.pool.free }
+    ensures same { SameLoan store.old store.new }
+    ensures makes { Makes (K.meaning store.old.kind.now) store.old.cells.now store.old.pool store.new.cells.now store.new.pool result
+        (taken (K.meaning store.old.kind.now) from len (list store.old.cells.now root)) copy_takes }
 {
-    let first = part(kind, cells, pool, root, from);
-    release(kind, cells, pool, first.before);
-    let second = part_rest(kind, cells, pool, first.loose, len);
-    let_go(kind, cells, pool, second.loose);
+    let first = part(store, root, from);
+    store.release(first.before);
+    let second = part_rest(store, first.loose, len);
+    let_go(store, second.loose);
     second.before
 }
 
 // The list without that range, and the range.
 pub fn cut<K: Kind>(
-    kind: &K,
-    cells: &mut [Cell<K::Element, K::Summary>],
-    pool: &mut Pool,
+    store: &mut Store<'_, K>,
     root: u32,
     from: u32,
     len: u32,
 ) -> Removal
-    requires owns { Owns (K.meaning kind.now) cells.old pool.old [] (root ∷ []) (2 ^ 16) }
-    requires few { length (list cells.old root) ≤ element_limit }
-    requires some { edit_takes ≤ pool.old.free }
-    ensures { Cuts (K.meaning kind.now) cells.old pool.old cells.new pool.new result (list cells.old root) from len edit_takes }
+    requires owns { Owns (K.meaning store.old.kind.now) store.old.cells.now store.old.pool [] (root ∷ []) (2 ^ 16) }
+    requires few { length (list store.old.cells.now root) ≤ element_limit }
+    requires some { edit_takes ≤ store.old.pool.free }
+    ensures same { SameLoan store.old store.new }
+    ensures cuts { Cuts (K.meaning store.old.kind.now) store.old.cells.now store.old.pool store.new.cells.now store.new.pool result (list store.old.cells.now root) from len edit_takes }
 {
-    let first = part(kind, cells, pool, root, from);
-    let second = part_rest(kind, cells, pool, first.loose, len);
-    let left = join(kind, cells, pool, first.before, second.loose);
+    let first = part(store, root, from);
+    let second = part_rest(store, first.loose, len);
+    let left = join(store, first.before, second.loose);
     Removal {
         left,
         taken: second.before,

@@ -23,67 +23,64 @@ const PIECES: u32 = 4096;
 
 // The rounds of putting in, where the track has room for what is put in.
 fn puts_with<K: Kind>(
-    kind: &K,
-    cells: &mut [Cell<K::Element, K::Summary>],
-    pool: &mut Pool,
+    store: &mut Store<'_, K>,
     root: u32,
     clip: u32,
     rounds: u32,
 ) -> u64
-    requires owns { Owns (K.meaning kind.now) cells.old pool.old [] (root ∷ clip ∷ []) (2 ^ 15) }
-    requires few { length (list cells.old root) + length (list cells.old clip) ≤ 2 * element_limit }
-    requires some { edit_takes ≤ pool.old.free }
-    ensures { Rests (K.meaning kind.now) cells.old pool.old cells.new pool.new }
+    requires owns { Owns (K.meaning store.old.kind.now) store.old.cells.now store.old.pool [] (root ∷ clip ∷ []) (2 ^ 15) }
+    requires few { length (list store.old.cells.now root) + length (list store.old.cells.now clip) ≤ 2 * element_limit }
+    requires some { edit_takes ≤ store.old.pool.free }
+    ensures same { SameLoan store.old store.new }
+    ensures rests { Rests (K.meaning store.old.kind.now) store.old.cells.now store.old.pool store.new.cells.now store.new.pool }
 {
-    let elements = count_at(cells, root) + count_at(cells, clip);
-    let extent = extent_at(kind, cells, root) + extent_at(kind, cells, clip);
+    let elements = store.count_at(root) + store.count_at(clip);
+    let extent = extent_at(store, root) + extent_at(store, clip);
     if elements > 4095 || extent > 1073741824 {
         return 0;
     }
-    puts(kind, cells, pool, root, clip, rounds)
+    puts(store, root, clip, rounds)
 }
 
 // A hundredth of the track is put in again and again.
 fn with_clip<K: Kind>(
-    kind: &K,
-    cells: &mut [Cell<K::Element, K::Summary>],
-    pool: &mut Pool,
+    store: &mut Store<'_, K>,
     root: u32,
     rounds: u32,
 ) -> u64
-    requires owns { Owns (K.meaning kind.now) cells.old pool.old [] (root ∷ []) (2 ^ 14) }
-    requires few { length (list cells.old root) ≤ element_limit }
-    requires some { 2048 ≤ pool.old.free }
-    ensures { Rests (K.meaning kind.now) cells.old pool.old cells.new pool.new }
+    requires owns { Owns (K.meaning store.old.kind.now) store.old.cells.now store.old.pool [] (root ∷ []) (2 ^ 14) }
+    requires few { length (list store.old.cells.now root) ≤ element_limit }
+    requires some { 2048 ≤ store.old.pool.free }
+    ensures same { SameLoan store.old store.new }
+    ensures rests { Rests (K.meaning store.old.kind.now) store.old.cells.now store.old.pool store.new.cells.now store.new.pool }
 {
-    let end = extent_at(kind, cells, root);
-    let clip = copy(kind, cells, pool, root, 0, end / 100);
-    let sum = puts_with(kind, cells, pool, root, clip, rounds);
-    release(kind, cells, pool, clip);
+    let end = extent_at(store, root);
+    let clip = copy(store, root, 0, end / 100);
+    let sum = puts_with(store, root, clip, rounds);
+    store.release(clip);
     sum
 }
 
 // The rounds of one kind of work.
 fn worked<K: Kind>(
-    kind: &K,
-    cells: &mut [Cell<K::Element, K::Summary>],
-    pool: &mut Pool,
+    store: &mut Store<'_, K>,
     root: u32,
     work: Work,
     rounds: u32,
 ) -> u64
-    requires owns { Owns (K.meaning kind.now) cells.old pool.old [] (root ∷ []) (2 ^ 14) }
-    requires few { length (list cells.old root) ≤ element_limit }
-    ensures { Rests (K.meaning kind.now) cells.old pool.old cells.new pool.new }
+    requires owns { Owns (K.meaning store.old.kind.now) store.old.cells.now store.old.pool [] (root ∷ []) (2 ^ 14) }
+    requires few { length (list store.old.cells.now root) ≤ element_limit }
+    ensures same { SameLoan store.old store.new }
+    ensures rests { Rests (K.meaning store.old.kind.now) store.old.cells.now store.old.pool store.new.cells.now store.new.pool }
 {
-    if pool.free < 2048 || extent_at(kind, cells, root) == 0 {
+    if store.pool.free < 2048 || extent_at(store, root) == 0 {
         return 0;
     }
     match work {
-        Work::Put => with_clip(kind, cells, pool, root, rounds),
-        Work::Cut => cuts(kind, cells, pool, root, rounds),
-        Work::Read => reads(kind, cells, root, rounds),
-        Work::Overview => overviews(kind, cells, root, rounds),
+        Work::Put => with_clip(store, root, rounds),
+        Work::Cut => cuts(store, root, rounds),
+        Work::Read => reads(store, root, rounds),
+        Work::Overview => overviews(store, root, rounds),
     }
 }
 

@@ -5,6 +5,7 @@ ghost use Rattle.kinds.specs.Places.{extent_of, put_at, without};
 ghost use Rattle.flat.specs.Refusals.{element_limit};
 ghost use Rattle.balance.specs.Levels.{most};
 ghost use Rattle.cells.specs.Cells.{cell_count, Live, Sound};
+ghost use Rattle.cells.specs.Lent.{SameLoan};
 ghost use Rattle.splits.specs.Owning.{Owns};
 ghost use Rattle.edits.specs.Edits.{edit_takes, list};
 ghost use Rattle.paces.specs.Rests.{Rests};
@@ -18,69 +19,66 @@ use walks::View;
 
 // Puts the list of `clip` in at a place, and tells how many elements there are then.
 fn put_once<K: Kind>(
-    kind: &K,
-    cells: &mut [Cell<K::Element, K::Summary>],
-    pool: &mut Pool,
+    store: &mut Store<'_, K>,
     root: u32,
     place: u32,
     clip: u32,
 ) -> u32
-    requires owns { Owns (K.meaning kind.now) cells.old pool.old [] (root ∷ clip ∷ []) (2 ^ 15) }
-    requires few { length (list cells.old root) + length (list cells.old clip) ≤ element_limit }
-    requires short { extent_of (K.meaning kind.now) (list cells.old root) + extent_of (K.meaning kind.now) (list cells.old clip) ≤ limit }
-    requires some { edit_takes ≤ pool.old.free }
-    ensures rests { Rests (K.meaning kind.now) cells.old pool.old cells.new pool.new }
-    ensures count { result ≡ length (put_at (K.meaning kind.now) place (list cells.old clip) (list cells.old root)) }
+    requires owns { Owns (K.meaning store.old.kind.now) store.old.cells.now store.old.pool [] (root ∷ clip ∷ []) (2 ^ 15) }
+    requires few { length (list store.old.cells.now root) + length (list store.old.cells.now clip) ≤ element_limit }
+    requires short { extent_of (K.meaning store.old.kind.now) (list store.old.cells.now root) + extent_of (K.meaning store.old.kind.now) (list store.old.cells.now clip) ≤ limit }
+    requires some { edit_takes ≤ store.old.pool.free }
+    ensures same { SameLoan store.old store.new }
+    ensures rests { Rests (K.meaning store.old.kind.now) store.old.cells.now store.old.pool store.new.cells.now store.new.pool }
+    ensures count { result ≡ length (put_at (K.meaning store.old.kind.now) place (list store.old.cells.now clip) (list store.old.cells.now root)) }
 {
-    let r = put(kind, cells, pool, root, place, clip);
-    let n = count_at(cells, r);
-    release(kind, cells, pool, r);
+    let r = put(store, root, place, clip);
+    let n = store.count_at(r);
+    store.release(r);
     n
 }
 
 // Cuts a range out, and tells how many elements are left.
 fn cut_once<K: Kind>(
-    kind: &K,
-    cells: &mut [Cell<K::Element, K::Summary>],
-    pool: &mut Pool,
+    store: &mut Store<'_, K>,
     root: u32,
     from: u32,
     len: u32,
 ) -> u32
-    requires owns { Owns (K.meaning kind.now) cells.old pool.old [] (root ∷ []) (2 ^ 15) }
-    requires few { length (list cells.old root) ≤ element_limit }
-    requires some { edit_takes ≤ pool.old.free }
-    ensures rests { Rests (K.meaning kind.now) cells.old pool.old cells.new pool.new }
-    ensures count { result ≡ length (without (K.meaning kind.now) from len (list cells.old root)) }
+    requires owns { Owns (K.meaning store.old.kind.now) store.old.cells.now store.old.pool [] (root ∷ []) (2 ^ 15) }
+    requires few { length (list store.old.cells.now root) ≤ element_limit }
+    requires some { edit_takes ≤ store.old.pool.free }
+    ensures same { SameLoan store.old store.new }
+    ensures rests { Rests (K.meaning store.old.kind.now) store.old.cells.now store.old.pool store.new.cells.now store.new.pool }
+    ensures count { result ≡ length (without (K.meaning store.old.kind.now) from len (list store.old.cells.now root)) }
 {
-    let r = cut(kind, cells, pool, root, from, len);
-    let n = count_at(cells, r.left);
-    release(kind, cells, pool, r.left);
-    release(kind, cells, pool, r.taken);
+    let r = cut(store, root, from, len);
+    let n = store.count_at(r.left);
+    store.release(r.left);
+    store.release(r.taken);
     n
 }
 
 // Puts the list of `clip` in at places, and adds up how many elements there are then.
 pub(crate) fn puts<K: Kind>(
-    kind: &K,
-    cells: &mut [Cell<K::Element, K::Summary>],
-    pool: &mut Pool,
+    store: &mut Store<'_, K>,
     root: u32,
     clip: u32,
     rounds: u32,
 ) -> u64
-    requires owns { Owns (K.meaning kind.now) cells.old pool.old [] (root ∷ clip ∷ []) (2 ^ 15) }
-    requires few { length (list cells.old root) + length (list cells.old clip) ≤ element_limit }
-    requires short { extent_of (K.meaning kind.now) (list cells.old root) + extent_of (K.meaning kind.now) (list cells.old clip) ≤ limit }
-    requires some { edit_takes ≤ pool.old.free }
-    ensures rests { Rests (K.meaning kind.now) cells.old pool.old cells.new pool.new }
-    ensures sum { result ≡ put_counts (K.meaning kind.now) (list cells.old root) (list cells.old clip) rounds }
+    requires owns { Owns (K.meaning store.old.kind.now) store.old.cells.now store.old.pool [] (root ∷ clip ∷ []) (2 ^ 15) }
+    requires few { length (list store.old.cells.now root) + length (list store.old.cells.now clip) ≤ element_limit }
+    requires short { extent_of (K.meaning store.old.kind.now) (list store.old.cells.now root) + extent_of (K.meaning store.old.kind.now) (list store.old.cells.now clip) ≤ limit }
+    requires some { edit_takes ≤ store.old.pool.free }
+    ensures same { SameLoan store.old store.new }
+    ensures rests { Rests (K.meaning store.old.kind.now) store.old.cells.now store.old.pool store.new.cells.now store.new.pool }
+    ensures sum { result ≡ put_counts (K.meaning store.old.kind.now) (list store.old.cells.now root) (list store.old.cells.now clip) rounds }
 {
-    let end = extent_at(kind, cells, root);
+    let end = extent_at(store, root);
     let mut places = Places::new();
     let mut sum = 0u64;
     for _ in 0..rounds {
-        let n = put_once(kind, cells, pool, root, places.next(end), clip);
+        let n = put_once(store, root, places.next(end), clip);
         sum = sum.wrapping_add(n as u64);
     }
     sum
@@ -88,25 +86,24 @@ pub(crate) fn puts<K: Kind>(
 
 // Cuts ranges out, and adds up how many elements are left.
 pub(crate) fn cuts<K: Kind>(
-    kind: &K,
-    cells: &mut [Cell<K::Element, K::Summary>],
-    pool: &mut Pool,
+    store: &mut Store<'_, K>,
     root: u32,
     rounds: u32,
 ) -> u64
-    requires owns { Owns (K.meaning kind.now) cells.old pool.old [] (root ∷ []) (2 ^ 15) }
-    requires few { length (list cells.old root) ≤ element_limit }
-    requires some { edit_takes ≤ pool.old.free }
-    ensures rests { Rests (K.meaning kind.now) cells.old pool.old cells.new pool.new }
-    ensures sum { result ≡ cut_counts (K.meaning kind.now) (list cells.old root) rounds }
+    requires owns { Owns (K.meaning store.old.kind.now) store.old.cells.now store.old.pool [] (root ∷ []) (2 ^ 15) }
+    requires few { length (list store.old.cells.now root) ≤ element_limit }
+    requires some { edit_takes ≤ store.old.pool.free }
+    ensures same { SameLoan store.old store.new }
+    ensures rests { Rests (K.meaning store.old.kind.now) store.old.cells.now store.old.pool store.new.cells.now store.new.pool }
+    ensures sum { result ≡ cut_counts (K.meaning store.old.kind.now) (list store.old.cells.now root) rounds }
 {
-    let end = extent_at(kind, cells, root);
+    let end = extent_at(store, root);
     let mut places = Places::new();
     let mut sum = 0u64;
     for _ in 0..rounds {
         let from = places.next(end);
         let len = places.next(end - from);
-        let n = cut_once(kind, cells, pool, root, from, len);
+        let n = cut_once(store, root, from, len);
         sum = sum.wrapping_add(n as u64);
     }
     sum
@@ -114,19 +111,18 @@ pub(crate) fn cuts<K: Kind>(
 
 // Reads at a place, and adds up the offsets.
 pub(crate) fn reads<K: Kind>(
-    kind: &K,
-    cells: &[Cell<K::Element, K::Summary>],
+    store: &Store<'_, K>,
     root: u32,
     rounds: u32,
 ) -> u64
-    requires sound { Sound (K.meaning kind.now) cells.now }
-    requires live { Live cells.now root }
-    requires few { cell_count cells.now root ≤ most }
-    requires some { 1 ≤ extent_of (K.meaning kind.now) (list cells.now root) }
-    ensures { result ≡ offsets (K.meaning kind.now) (list cells.now root) rounds }
+    requires sound { Sound (K.meaning store.now.kind.now) store.now.cells.now }
+    requires live { Live store.now.cells.now root }
+    requires few { cell_count store.now.cells.now root ≤ most }
+    requires some { 1 ≤ extent_of (K.meaning store.now.kind.now) (list store.now.cells.now root) }
+    ensures { result ≡ offsets (K.meaning store.now.kind.now) (list store.now.cells.now root) rounds }
 {
-    let end = extent_at(kind, cells, root) - 1;
-    let view = View::new(kind, cells, root);
+    let end = extent_at(store, root) - 1;
+    let view = View::of(store, root);
     let mut places = Places::new();
     let mut sum = 0u64;
     for _ in 0..rounds {
@@ -138,25 +134,24 @@ pub(crate) fn reads<K: Kind>(
 
 // Asks for the overview from a place to one behind it, and adds up their lengths.
 pub(crate) fn overviews<K: Kind>(
-    kind: &K,
-    cells: &[Cell<K::Element, K::Summary>],
+    store: &Store<'_, K>,
     root: u32,
     rounds: u32,
 ) -> u64
-    requires sound { Sound (K.meaning kind.now) cells.now }
-    requires live { Live cells.now root }
-    requires some { 1 ≤ extent_of (K.meaning kind.now) (list cells.now root) }
-    ensures { result ≡ lengths (K.meaning kind.now) (list cells.now root) rounds }
+    requires sound { Sound (K.meaning store.now.kind.now) store.now.cells.now }
+    requires live { Live store.now.cells.now root }
+    requires some { 1 ≤ extent_of (K.meaning store.now.kind.now) (list store.now.cells.now root) }
+    ensures { result ≡ lengths (K.meaning store.now.kind.now) (list store.now.cells.now root) rounds }
 {
-    let end = extent_at(kind, cells, root) - 1;
-    let view = View::new(kind, cells, root);
+    let end = extent_at(store, root) - 1;
+    let view = View::of(store, root);
     let mut places = Places::new();
     let mut sum = 0u64;
     for _ in 0..rounds {
         let from = places.next(end);
         let len = places.next(end - from) + 1;
         let s = view.overview(from, len);
-        sum = sum.wrapping_add(kind.width(s) as u64);
+        sum = sum.wrapping_add(store.kind.width(s) as u64);
     }
     sum
 }

@@ -16,39 +16,35 @@ use walks::View;
 
 // The summary of the atoms of a track from one place to another.
 pub fn stretch<K: Kind>(
-    kind: &K,
-    cells: &[Cell<K::Element, K::Summary>],
-    pool: &Pool,
+    store: &Store<'_, K>,
     root: u32,
     from: u32,
     to: u32,
 ) -> K::Summary
-    requires owns { Owns (K.meaning kind.now) cells.now pool.now [] (root ∷ []) (2 ^ 16) }
+    requires owns { Owns (K.meaning store.now.kind.now) store.now.cells.now store.now.pool [] (root ∷ []) (2 ^ 16) }
     requires order { from ≤ to }
-    requires inside { to ≤ extent_of (K.meaning kind.now) (list cells.now root) }
-    ensures { result ≡ between (K.meaning kind.now) (atoms_of (K.meaning kind.now) (list cells.now root)) from to }
+    requires inside { to ≤ extent_of (K.meaning store.now.kind.now) (list store.now.cells.now root) }
+    ensures { result ≡ between (K.meaning store.now.kind.now) (atoms_of (K.meaning store.now.kind.now) (list store.now.cells.now root)) from to }
 {
     if from == to {
-        kind.empty()
+        store.kind.empty()
     } else {
-        View::new(kind, cells, root).overview(from, to - from)
+        View::of(store, root).overview(from, to - from)
     }
 }
 
 // The summaries of n columns of a track, as equal as there can be.
 pub fn columns_of<K: Kind>(
     heap: Global,
-    kind: &K,
-    cells: &[Cell<K::Element, K::Summary>],
-    pool: &Pool,
+    store: &Store<'_, K>,
     root: u32,
     n: u32,
 ) -> Result<Vec<K::Summary>, AllocError>
-    requires { Owns (K.meaning kind.now) cells.now pool.now [] (root ∷ []) (2 ^ 16) }
-    ensures { IfOk result (λ v. v.items ≡ map (column (K.meaning kind.now) (atoms_of (K.meaning kind.now) (list cells.now root)) n) (range_with_len 0 n)) }
+    requires { Owns (K.meaning store.now.kind.now) store.now.cells.now store.now.pool [] (root ∷ []) (2 ^ 16) }
+    ensures { IfOk result (λ v. v.items ≡ map (column (K.meaning store.now.kind.now) (atoms_of (K.meaning store.now.kind.now) (list store.now.cells.now root)) n) (range_with_len 0 n)) }
 {
-    let extent = extent_at(kind, cells, root);
+    let extent = extent_at(store, root);
     in_columns(heap, extent, n, |from, to| {
-        stretch(kind, cells, pool, root, from, to)
+        stretch(store, root, from, to)
     })
 }

@@ -33,42 +33,40 @@ pub(crate) fn room(extent: u32, elements: u32, free: u32) -> Result<(), SessionF
 // Puts the element of a piece at the end of the list of `root`, which is given back; the new root is the caller's.
 // Where that is refused, nothing changes.
 pub fn lay<K: Kind>(
-    kind: &K,
-    cells: &mut [Cell<K::Element, K::Summary>],
-    pool: &mut Pool,
+    store: &mut Store<'_, K>,
     root: u32,
     piece: Piece,
 ) -> Result<u32, SessionFault>
-    requires owns { Owns (K.meaning kind.now) cells.old pool.old (root ∷ []) [] (2 ^ 14) }
-    requires few { length (list cells.old root) ≤ element_limit }
-    ensures { MatchResult result
-        (Lays (K.meaning kind.now) cells.old pool.old root piece cells.new pool.new)
-        (Refuses (K.meaning kind.now) (not_laid (K.meaning kind.now) (list cells.old root) pool.old.free piece)
-        cells.old pool.old cells.new pool.new) }
+    requires owns { Owns (K.meaning store.old.kind.now) store.old.cells.now store.old.pool (root ∷ []) [] (2 ^ 14) }
+    requires few { length (list store.old.cells.now root) ≤ element_limit }
+    ensures same { SameLoan store.old store.new }
+    ensures lays { MatchResult result
+        (Lays (K.meaning store.old.kind.now) store.old.cells.now store.old.pool root piece store.new.cells.now store.new.pool)
+        (Refuses (K.meaning store.old.kind.now) (not_laid (K.meaning store.old.kind.now) (list store.old.cells.now root) store.old.pool.free piece)
+        store.old.cells.now store.old.pool store.new.cells.now store.new.pool) }
 {
-    let element = kind.make(piece.first, piece.second)?;
-    let end = extent_at(kind, cells, root);
-    let extent = end + kind.extent(element);
-    let elements = count_at(cells, root) + 1;
-    room(extent, elements, pool.free)?;
-    let r = insert(kind, cells, pool, root, end, element);
-    release(kind, cells, pool, root);
+    let element = store.kind.make(piece.first, piece.second)?;
+    let end = extent_at(store, root);
+    let extent = end + store.kind.extent(element);
+    let elements = store.count_at(root) + 1;
+    room(extent, elements, store.pool.free)?;
+    let r = insert(store, root, end, element);
+    store.release(root);
     Ok(r)
 }
 
 // Lays pieces from an empty track on, all of them or up to the first that is refused.
 pub fn lay_all<K: Kind>(
-    kind: &K,
-    cells: &mut [Cell<K::Element, K::Summary>],
-    pool: &mut Pool,
+    store: &mut Store<'_, K>,
     pieces: &[Piece],
 ) -> Laid
-    requires { Owns (K.meaning kind.now) cells.old pool.old [] [] (2 ^ 14) }
-    ensures { LaysAll (K.meaning kind.now) cells.old pool.old pieces.now cells.new pool.new result }
+    requires { Owns (K.meaning store.old.kind.now) store.old.cells.now store.old.pool [] [] (2 ^ 14) }
+    ensures same { SameLoan store.old store.new }
+    ensures lays { LaysAll (K.meaning store.old.kind.now) store.old.cells.now store.old.pool pieces.now store.new.cells.now store.new.pool result }
 {
     let mut root = NONE;
     for (laid, piece) in pieces.iter().enumerate() {
-        match lay(kind, cells, pool, root, *piece) {
+        match lay(store, root, *piece) {
             Ok(r) => root = r,
             Err(fault) => {
                 return Laid {

@@ -14,32 +14,31 @@ use kinds::Kind;
 // Takes a range out of the list of `root`, which stays. How many elements would be left is known only once they are, so
 // what was made is given back where they are too many.
 pub fn take_out<K: Kind>(
-    kind: &K,
-    cells: &mut [Cell<K::Element, K::Summary>],
-    pool: &mut Pool,
+    store: &mut Store<'_, K>,
     root: u32,
     from: u32,
     len: u32,
 ) -> Result<Removal, SessionFault>
-    requires owns { Owns (K.meaning kind.now) cells.old pool.old [] (root ∷ []) (2 ^ 14) }
-    requires few { length (list cells.old root) ≤ element_limit }
-    requires some { edit_takes ≤ pool.old.free }
-    ensures { MatchResult result
-        (TakesOut (K.meaning kind.now) cells.old pool.old root from len cells.new pool.new)
-        (Declines (K.meaning kind.now) (not_taken (K.meaning kind.now) (list cells.old root) pool.old.free from len)
-        cells.old pool.old cells.new pool.new) }
+    requires owns { Owns (K.meaning store.old.kind.now) store.old.cells.now store.old.pool [] (root ∷ []) (2 ^ 14) }
+    requires few { length (list store.old.cells.now root) ≤ element_limit }
+    requires some { edit_takes ≤ store.old.pool.free }
+    ensures same { SameLoan store.old store.new }
+    ensures takes { MatchResult result
+        (TakesOut (K.meaning store.old.kind.now) store.old.cells.now store.old.pool root from len store.new.cells.now store.new.pool)
+        (Declines (K.meaning store.old.kind.now) (not_taken (K.meaning store.old.kind.now) (list store.old.cells.now root) store.old.pool.free from len)
+        store.old.cells.now store.old.pool store.new.cells.now store.new.pool) }
 {
     if len == 0 {
         return Err(SessionFault::EmptyRange);
     }
-    if from as u64 + len as u64 > extent_at(kind, cells, root) as u64 {
+    if from as u64 + len as u64 > extent_at(store, root) as u64 {
         return Err(SessionFault::RangePastEnd);
     }
-    let free = pool.free;
-    let r = cut(kind, cells, pool, root, from, len);
-    if let Err(fault) = room(0, count_at(cells, r.left), free) {
-        release(kind, cells, pool, r.left);
-        release(kind, cells, pool, r.taken);
+    let free = store.pool.free;
+    let r = cut(store, root, from, len);
+    if let Err(fault) = room(0, store.count_at(r.left), free) {
+        store.release(r.left);
+        store.release(r.taken);
         return Err(fault);
     }
     Ok(r)
@@ -47,35 +46,34 @@ pub fn take_out<K: Kind>(
 
 // Puts the list of `clip` into that of `root` at a place; both stay.
 pub fn put_in<K: Kind>(
-    kind: &K,
-    cells: &mut [Cell<K::Element, K::Summary>],
-    pool: &mut Pool,
+    store: &mut Store<'_, K>,
     root: u32,
     place: u32,
     clip: u32,
 ) -> Result<u32, SessionFault>
-    requires owns { Owns (K.meaning kind.now) cells.old pool.old [] (root ∷ clip ∷ []) (2 ^ 14) }
-    requires some { edit_takes ≤ pool.old.free }
-    ensures { MatchResult result
-        (PutsIn (K.meaning kind.now) cells.old pool.old root place clip cells.new pool.new)
-        (Declines (K.meaning kind.now) (not_put (K.meaning kind.now) (list cells.old root) (list cells.old clip) pool.old.free place)
-        cells.old pool.old cells.new pool.new) }
+    requires owns { Owns (K.meaning store.old.kind.now) store.old.cells.now store.old.pool [] (root ∷ clip ∷ []) (2 ^ 14) }
+    requires some { edit_takes ≤ store.old.pool.free }
+    ensures same { SameLoan store.old store.new }
+    ensures puts { MatchResult result
+        (PutsIn (K.meaning store.old.kind.now) store.old.cells.now store.old.pool root place clip store.new.cells.now store.new.pool)
+        (Declines (K.meaning store.old.kind.now) (not_put (K.meaning store.old.kind.now) (list store.old.cells.now root) (list store.old.cells.now clip) store.old.pool.free place)
+        store.old.cells.now store.old.pool store.new.cells.now store.new.pool) }
 {
-    let end = extent_at(kind, cells, root);
+    let end = extent_at(store, root);
     if place > end {
         return Err(SessionFault::BeyondEnd);
     }
-    let more = count_at(cells, clip);
+    let more = store.count_at(clip);
     if more == 0 {
         return Err(SessionFault::ClipboardEmpty);
     }
-    let extent = end + extent_at(kind, cells, clip);
-    let elements = count_at(cells, root).saturating_add(more);
+    let extent = end + extent_at(store, clip);
+    let elements = store.count_at(root).saturating_add(more);
     room(extent, elements, 2048)?;
-    let free = pool.free;
-    let r = put(kind, cells, pool, root, place, clip);
-    if let Err(fault) = room(0, count_at(cells, r), free) {
-        release(kind, cells, pool, r);
+    let free = store.pool.free;
+    let r = put(store, root, place, clip);
+    if let Err(fault) = room(0, store.count_at(r), free) {
+        store.release(r);
         return Err(fault);
     }
     Ok(r)

@@ -35,25 +35,24 @@ fn open<K: Kind>(kind: &K, cells: &mut [Cell<K::Element, K::Summary>]) -> Result
 
 // Lays the pieces, takes the range out and puts it in elsewhere. All versions are kept.
 fn keep<K: Kind>(
-    kind: &K,
-    cells: &mut [Cell<K::Element, K::Summary>],
-    pool: &mut Pool,
+    store: &mut Store<'_, K>,
     pieces: &[Piece],
     shift: Shift,
 ) -> Result<Versions, SessionFault>
-    requires arena { Arena (K.meaning kind.now) cells.old pool.old [] }
-    requires some { fewest_cells ≤ pool.old.free }
-    ensures { MatchResult result
-        (Kept (K.meaning kind.now) pieces.now shift cells.new pool.new)
-        (Stops (K.meaning kind.now) (length cells.old) pieces.now shift) }
+    requires arena { Arena (K.meaning store.old.kind.now) store.old.cells.now store.old.pool [] }
+    requires some { fewest_cells ≤ store.old.pool.free }
+    ensures same { SameLoan store.old store.new }
+    ensures keeps { MatchResult result
+        (Kept (K.meaning store.old.kind.now) pieces.now shift store.new.cells.now store.new.pool)
+        (Stops (K.meaning store.old.kind.now) (length store.old.cells.now) pieces.now shift) }
 {
-    let all = pool.free;
-    let track = lay_all(kind, cells, pool, pieces);
+    let all = store.pool.free;
+    let track = lay_all(store, pieces);
     track.done?;
-    let before = pool.free;
-    let parts = take_out(kind, cells, pool, track.root, shift.from, shift.len)?;
-    let between = pool.free;
-    let moved = put_in(kind, cells, pool, parts.left, shift.to, parts.taken)?;
+    let before = store.pool.free;
+    let parts = take_out(store, track.root, shift.from, shift.len)?;
+    let between = store.pool.free;
+    let moved = put_in(store, parts.left, shift.to, parts.taken)?;
     Ok(Versions {
         laid: Made {
             root: track.root,
@@ -66,43 +65,40 @@ fn keep<K: Kind>(
         range: parts.taken,
         moved: Made {
             root: moved,
-            took: between.saturating_sub(pool.free),
+            took: between.saturating_sub(store.pool.free),
         },
     })
 }
 
 // What is told of a version.
 fn version_of<K: Kind>(
-    kind: &K,
-    cells: &[Cell<K::Element, K::Summary>],
-    pool: &Pool,
+    store: &Store<'_, K>,
     made: Made,
 ) -> Version
-    requires { Owns (K.meaning kind.now) cells.now pool.now [] (made.root ∷ []) (2 ^ 16) }
-    ensures tells { Tells (K.meaning kind.now) result (list cells.now made.root) }
+    requires { Owns (K.meaning store.now.kind.now) store.now.cells.now store.now.pool [] (made.root ∷ []) (2 ^ 16) }
+    ensures tells { Tells (K.meaning store.now.kind.now) result (list store.now.cells.now made.root) }
     ensures took { result.took ≡ made.took }
 {
     Version {
-        elements: count_at(cells, made.root),
-        extent: extent_at(kind, cells, made.root),
+        elements: store.count_at(made.root),
+        extent: extent_at(store, made.root),
         took: made.took,
     }
 }
 
 // Gives the four roots back.
 fn let_go<K: Kind>(
-    kind: &K,
-    cells: &mut [Cell<K::Element, K::Summary>],
-    pool: &mut Pool,
+    store: &mut Store<'_, K>,
     v: Versions,
 )
-    requires { Held (K.meaning kind.now) cells.old pool.old (roots v) }
-    ensures { Arena (K.meaning kind.now) cells.new pool.new [] }
+    requires { Held (K.meaning store.old.kind.now) store.old.cells.now store.old.pool (roots v) }
+    ensures same { SameLoan store.old store.new }
+    ensures moves { Arena (K.meaning store.old.kind.now) store.new.cells.now store.new.pool [] }
 {
-    release(kind, cells, pool, v.moved.root);
-    release(kind, cells, pool, v.left.root);
-    release(kind, cells, pool, v.range);
-    release(kind, cells, pool, v.laid.root);
+    store.release(v.moved.root);
+    store.release(v.left.root);
+    store.release(v.range);
+    store.release(v.laid.root);
 }
 
 // Lays pieces as a track, moves a range of it, and sees the result in columns.
