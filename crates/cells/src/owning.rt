@@ -21,7 +21,7 @@ impl<K: Kind> Store<'_, K> {
         self.cells[i as usize] = cell;
     }
 
-    // Owns what `i` names once more.
+    // Owns what `i` names once more. The cell is written by index: of what is written through `get_mut` no contract tells.
     pub fn retain(&mut self, i: u32)
         requires holds { (p : Pool) × Holds (K.meaning self.old.kind.now) self.old.cells.now p [] (2 ^ 30) }
         requires live { Live self.old.cells.now i }
