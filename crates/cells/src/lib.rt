@@ -15,11 +15,7 @@ mod store;
 
 pub use cell::{Cell, NONE};
 pub use item::Item;
-pub use making::make;
-pub use owning::retain;
 pub use path::Path;
 pub use pool::Pool;
 pub use read::{cell_at, count_at, summary_at};
-pub use releasing::{free, release};
-pub use starting::start;
 pub use store::Store;

@@ -7,20 +7,6 @@ use crate::pool::Pool;
 use crate::store::Store;
 use kinds::Kind;
 
-// Chains the cells in the order of their numbers; the number after the last names none. No root is owned.
-pub fn start<K: Kind>(kind: &K, cells: &mut [Cell<K::Element, K::Summary>]) -> Pool
-    requires { length cells.old ≤ 65535 }
-    ensures arena { Arena (K.meaning kind.now) cells.new result [] }
-    ensures free { result.free ≡ length cells.old }
-{
-    let free = cells.len() as u32;
-    for (i, c) in cells.iter_mut().enumerate() {
-        c.left = i as u32 + 1;
-        c.refs = 0;
-    }
-    Pool { head: 0, free }
-}
-
 impl<'a, K: Kind> Store<'a, K> {
     // Chains the cells in the order of their numbers; the number after the last names none. No root is owned.
     pub fn start(kind: &'a K, cells: &'a mut [Cell<K::Element, K::Summary>]) -> Store<'a, K>
