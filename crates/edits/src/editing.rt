@@ -7,21 +7,19 @@ ghost use Rattle.balance.specs.Trees.{count};
 ghost use Rattle.balance.specs.Edits.{tail};
 ghost use Rattle.balance.specs.Levels.{most};
 ghost use Rattle.cells.specs.Moves.{Moves};
+ghost use Rattle.cells.specs.Lent.{SameLoan};
 ghost use Rattle.splits.specs.Owning.{Owns};
 ghost use Rattle.splits.specs.Splitting.{behind, loose_roots};
 ghost use Rattle.flat.specs.Refusals.{element_limit};
 ghost use Rattle.edits.specs.Edits.{edit_takes, copy_takes, insert_takes, list, Makes, Cuts};
 
 use crate::removal::Removal;
-use cells::{Cell, Item, NONE, Pool, make, release};
+use cells::{Item, NONE, Store};
 use kinds::Kind;
 use splits::{Loose, join, merge, part, part_rest};
 
 // A list of one element.
-pub fn single<K: Kind>(
-    store: &mut Store<'_, K>,
-    element: K::Element,
-) -> u32
+pub fn single<K: Kind>(store: &mut Store<'_, K>, element: K::Element) -> u32
     requires owns { Owns (K.meaning store.old.kind.now) store.old.cells.now store.old.pool [] [] (2 ^ 16) }
     requires lawful { Lawful (K.meaning store.old.kind.now) element }
     requires some { 1 ≤ store.old.pool.free }
@@ -32,12 +30,7 @@ pub fn single<K: Kind>(
 }
 
 // The list of `root` with that of `new` put in at a place.
-pub fn put<K: Kind>(
-    store: &mut Store<'_, K>,
-    root: u32,
-    place: u32,
-    new: u32,
-) -> u32
+pub fn put<K: Kind>(store: &mut Store<'_, K>, root: u32, place: u32, new: u32) -> u32
     requires owns { Owns (K.meaning store.old.kind.now) store.old.cells.now store.old.pool [] (root ∷ new ∷ []) (2 ^ 16) }
     requires few { length (list store.old.cells.now root) + length (list store.old.cells.now new) ≤ element_limit }
     requires short { extent_of (K.meaning store.old.kind.now) (list store.old.cells.now root) + extent_of (K.meaning store.old.kind.now) (list store.old.cells.now new) ≤ limit }
@@ -52,12 +45,7 @@ pub fn put<K: Kind>(
 }
 
 // The list of `root` with an element put in at a place.
-pub fn insert<K: Kind>(
-    store: &mut Store<'_, K>,
-    root: u32,
-    place: u32,
-    element: K::Element,
-) -> u32
+pub fn insert<K: Kind>(store: &mut Store<'_, K>, root: u32, place: u32, element: K::Element) -> u32
     requires owns { Owns (K.meaning store.old.kind.now) store.old.cells.now store.old.pool [] (root ∷ []) (2 ^ 15) }
     requires lawful { Lawful (K.meaning store.old.kind.now) element }
     requires few { length (list store.old.cells.now root) < element_limit }
@@ -74,10 +62,7 @@ pub fn insert<K: Kind>(
 }
 
 // Gives back the root behind a place, if there is one.
-fn let_go<K: Kind>(
-    store: &mut Store<'_, K>,
-    rest: Option<Loose<K::Element, K::Summary>>,
-)
+fn let_go<K: Kind>(store: &mut Store<'_, K>, rest: Option<Loose<K::Element, K::Summary>>)
     requires owns { Owns (K.meaning store.old.kind.now) store.old.cells.now store.old.pool (loose_roots rest) [] (2 ^ 20) }
     requires few { count (tail (behind store.old.cells.now rest)) ≤ most }
     ensures same { SameLoan store.old store.new }
@@ -89,12 +74,7 @@ fn let_go<K: Kind>(
 }
 
 // The range of `len` atoms from a place on, as a list of its own.
-pub fn copy<K: Kind>(
-    store: &mut Store<'_, K>,
-    root: u32,
-    from: u32,
-    len: u32,
-) -> u32
+pub fn copy<K: Kind>(store: &mut Store<'_, K>, root: u32, from: u32, len: u32) -> u32
     requires owns { Owns (K.meaning store.old.kind.now) store.old.cells.now store.old.pool [] (root ∷ []) (2 ^ 16) }
     requires few { length (list store.old.cells.now root) ≤ element_limit }
     requires some { copy_takes ≤ store.old.pool.free }
@@ -110,12 +90,7 @@ pub fn copy<K: Kind>(
 }
 
 // The list without that range, and the range.
-pub fn cut<K: Kind>(
-    store: &mut Store<'_, K>,
-    root: u32,
-    from: u32,
-    len: u32,
-) -> Removal
+pub fn cut<K: Kind>(store: &mut Store<'_, K>, root: u32, from: u32, len: u32) -> Removal
     requires owns { Owns (K.meaning store.old.kind.now) store.old.cells.now store.old.pool [] (root ∷ []) (2 ^ 16) }
     requires few { length (list store.old.cells.now root) ≤ element_limit }
     requires some { edit_takes ≤ store.old.pool.free }

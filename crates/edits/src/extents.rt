@@ -1,10 +1,9 @@
 ghost use Rattle.std.specs.Prelude.{◌≡◌};
 ghost use Rattle.kinds.specs.Places.{extent_of};
 ghost use Rattle.cells.specs.Cells.{Live, Sound};
-ghost use Rattle.cells.specs.Lent.{SameLoan};
 ghost use Rattle.edits.specs.Edits.{list};
 
-use cells::Cell;
+use cells::Store;
 use kinds::Kind;
 use walks::View;
 

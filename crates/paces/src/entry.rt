@@ -1,6 +1,7 @@
 // The entry for C.
 ghost use Rattle.std.specs.Prelude.{◌≡◌, ◌+◌, ◌*◌, ◌^◌, ◌≤◌, [], ◌∷◌, length};
 ghost use Rattle.flat.specs.Refusals.{element_limit};
+ghost use Rattle.cells.specs.Lent.{SameLoan};
 ghost use Rattle.splits.specs.Owning.{Owns};
 ghost use Rattle.edits.specs.Edits.{edit_takes, list};
 ghost use Rattle.paces.specs.Rests.{Rests};
@@ -9,7 +10,7 @@ use crate::pace::Pace;
 use crate::rounds::{cuts, overviews, puts, reads};
 use crate::work::Work;
 use audio::Audio;
-use cells::{Cell, Pool, count_at, free, release, start};
+use cells::{Cell, Store};
 use edits::{copy, extent_at};
 use kinds::Kind;
 use reels::{Pcm, Reel};
@@ -22,12 +23,7 @@ const IDLE: Pace = Pace { sum: 0, free: 8192 };
 const PIECES: u32 = 4096;
 
 // The rounds of putting in, where the track has room for what is put in.
-fn puts_with<K: Kind>(
-    store: &mut Store<'_, K>,
-    root: u32,
-    clip: u32,
-    rounds: u32,
-) -> u64
+fn puts_with<K: Kind>(store: &mut Store<'_, K>, root: u32, clip: u32, rounds: u32) -> u64
     requires owns { Owns (K.meaning store.old.kind.now) store.old.cells.now store.old.pool [] (root ∷ clip ∷ []) (2 ^ 15) }
     requires few { length (list store.old.cells.now root) + length (list store.old.cells.now clip) ≤ 2 * element_limit }
     requires some { edit_takes ≤ store.old.pool.free }
@@ -43,11 +39,7 @@ fn puts_with<K: Kind>(
 }
 
 // A hundredth of the track is put in again and again.
-fn with_clip<K: Kind>(
-    store: &mut Store<'_, K>,
-    root: u32,
-    rounds: u32,
-) -> u64
+fn with_clip<K: Kind>(store: &mut Store<'_, K>, root: u32, rounds: u32) -> u64
     requires owns { Owns (K.meaning store.old.kind.now) store.old.cells.now store.old.pool [] (root ∷ []) (2 ^ 14) }
     requires few { length (list store.old.cells.now root) ≤ element_limit }
     requires some { 2048 ≤ store.old.pool.free }
@@ -62,12 +54,7 @@ fn with_clip<K: Kind>(
 }
 
 // The rounds of one kind of work.
-fn worked<K: Kind>(
-    store: &mut Store<'_, K>,
-    root: u32,
-    work: Work,
-    rounds: u32,
-) -> u64
+fn worked<K: Kind>(store: &mut Store<'_, K>, root: u32, work: Work, rounds: u32) -> u64
     requires owns { Owns (K.meaning store.old.kind.now) store.old.cells.now store.old.pool [] (root ∷ []) (2 ^ 14) }
     requires few { length (list store.old.cells.now root) ≤ element_limit }
     ensures same { SameLoan store.old store.new }
@@ -120,13 +107,13 @@ fn run<K: Kind>(
     requires { length cells.old ≡ 8192 }
     ensures { result.free ≡ 8192 }
 {
-    let mut pool = start(kind, cells);
-    let laid = lay_all(kind, cells, &mut pool, pieces);
-    let sum = worked(kind, cells, &mut pool, laid.root, work, rounds);
-    release(kind, cells, &mut pool, laid.root);
+    let mut store = Store::start(kind, cells);
+    let laid = lay_all(&mut store, pieces);
+    let sum = worked(&mut store, laid.root, work, rounds);
+    store.release(laid.root);
     Pace {
         sum,
-        free: free(kind, cells, &pool),
+        free: store.free(),
     }
 }
 

@@ -12,18 +12,13 @@ ghost use Rattle.paces.specs.Rests.{Rests};
 ghost use Rattle.paces.specs.Sums.{put_counts, cut_counts, offsets, lengths};
 
 use crate::places::Places;
-use cells::{Cell, Pool, count_at, release};
+use cells::Store;
 use edits::{cut, extent_at, put};
 use kinds::Kind;
 use walks::View;
 
 // Puts the list of `clip` in at a place, and tells how many elements there are then.
-fn put_once<K: Kind>(
-    store: &mut Store<'_, K>,
-    root: u32,
-    place: u32,
-    clip: u32,
-) -> u32
+fn put_once<K: Kind>(store: &mut Store<'_, K>, root: u32, place: u32, clip: u32) -> u32
     requires owns { Owns (K.meaning store.old.kind.now) store.old.cells.now store.old.pool [] (root ∷ clip ∷ []) (2 ^ 15) }
     requires few { length (list store.old.cells.now root) + length (list store.old.cells.now clip) ≤ element_limit }
     requires short { extent_of (K.meaning store.old.kind.now) (list store.old.cells.now root) + extent_of (K.meaning store.old.kind.now) (list store.old.cells.now clip) ≤ limit }
@@ -39,12 +34,7 @@ fn put_once<K: Kind>(
 }
 
 // Cuts a range out, and tells how many elements are left.
-fn cut_once<K: Kind>(
-    store: &mut Store<'_, K>,
-    root: u32,
-    from: u32,
-    len: u32,
-) -> u32
+fn cut_once<K: Kind>(store: &mut Store<'_, K>, root: u32, from: u32, len: u32) -> u32
     requires owns { Owns (K.meaning store.old.kind.now) store.old.cells.now store.old.pool [] (root ∷ []) (2 ^ 15) }
     requires few { length (list store.old.cells.now root) ≤ element_limit }
     requires some { edit_takes ≤ store.old.pool.free }
@@ -60,12 +50,7 @@ fn cut_once<K: Kind>(
 }
 
 // Puts the list of `clip` in at places, and adds up how many elements there are then.
-pub(crate) fn puts<K: Kind>(
-    store: &mut Store<'_, K>,
-    root: u32,
-    clip: u32,
-    rounds: u32,
-) -> u64
+pub(crate) fn puts<K: Kind>(store: &mut Store<'_, K>, root: u32, clip: u32, rounds: u32) -> u64
     requires owns { Owns (K.meaning store.old.kind.now) store.old.cells.now store.old.pool [] (root ∷ clip ∷ []) (2 ^ 15) }
     requires few { length (list store.old.cells.now root) + length (list store.old.cells.now clip) ≤ element_limit }
     requires short { extent_of (K.meaning store.old.kind.now) (list store.old.cells.now root) + extent_of (K.meaning store.old.kind.now) (list store.old.cells.now clip) ≤ limit }
@@ -85,11 +70,7 @@ pub(crate) fn puts<K: Kind>(
 }
 
 // Cuts ranges out, and adds up how many elements are left.
-pub(crate) fn cuts<K: Kind>(
-    store: &mut Store<'_, K>,
-    root: u32,
-    rounds: u32,
-) -> u64
+pub(crate) fn cuts<K: Kind>(store: &mut Store<'_, K>, root: u32, rounds: u32) -> u64
     requires owns { Owns (K.meaning store.old.kind.now) store.old.cells.now store.old.pool [] (root ∷ []) (2 ^ 15) }
     requires few { length (list store.old.cells.now root) ≤ element_limit }
     requires some { edit_takes ≤ store.old.pool.free }
@@ -110,11 +91,7 @@ pub(crate) fn cuts<K: Kind>(
 }
 
 // Reads at a place, and adds up the offsets.
-pub(crate) fn reads<K: Kind>(
-    store: &Store<'_, K>,
-    root: u32,
-    rounds: u32,
-) -> u64
+pub(crate) fn reads<K: Kind>(store: &Store<'_, K>, root: u32, rounds: u32) -> u64
     requires sound { Sound (K.meaning store.now.kind.now) store.now.cells.now }
     requires live { Live store.now.cells.now root }
     requires few { cell_count store.now.cells.now root ≤ most }
@@ -133,11 +110,7 @@ pub(crate) fn reads<K: Kind>(
 }
 
 // Asks for the overview from a place to one behind it, and adds up their lengths.
-pub(crate) fn overviews<K: Kind>(
-    store: &Store<'_, K>,
-    root: u32,
-    rounds: u32,
-) -> u64
+pub(crate) fn overviews<K: Kind>(store: &Store<'_, K>, root: u32, rounds: u32) -> u64
     requires sound { Sound (K.meaning store.now.kind.now) store.now.cells.now }
     requires live { Live store.now.cells.now root }
     requires some { 1 ≤ extent_of (K.meaning store.now.kind.now) (list store.now.cells.now root) }

@@ -7,7 +7,7 @@ ghost use Rattle.splits.specs.Owning.{Owns};
 ghost use Rattle.profile.specs.Columns.{column, between};
 ghost use Rattle.edits.specs.Edits.{list};
 
-use cells::{Cell, Pool};
+use cells::Store;
 use edits::extent_at;
 use kinds::Kind;
 use profile::in_columns;
@@ -15,12 +15,7 @@ use std::alloc::{AllocError, Global};
 use walks::View;
 
 // The summary of the atoms of a track from one place to another.
-pub fn stretch<K: Kind>(
-    store: &Store<'_, K>,
-    root: u32,
-    from: u32,
-    to: u32,
-) -> K::Summary
+pub fn stretch<K: Kind>(store: &Store<'_, K>, root: u32, from: u32, to: u32) -> K::Summary
     requires owns { Owns (K.meaning store.now.kind.now) store.now.cells.now store.now.pool [] (root ∷ []) (2 ^ 16) }
     requires order { from ≤ to }
     requires inside { to ≤ extent_of (K.meaning store.now.kind.now) (list store.now.cells.now root) }
@@ -35,7 +30,7 @@ pub fn stretch<K: Kind>(
 
 // The summaries of n columns of a track, as equal as there can be.
 pub fn columns_of<K: Kind>(
-    heap: Global,
+    alloc: Global,
     store: &Store<'_, K>,
     root: u32,
     n: u32,
@@ -44,7 +39,7 @@ pub fn columns_of<K: Kind>(
     ensures { IfOk result (λ v. v.items ≡ map (column (K.meaning store.now.kind.now) (atoms_of (K.meaning store.now.kind.now) (list store.now.cells.now root)) n) (range_with_len 0 n)) }
 {
     let extent = extent_at(store, root);
-    in_columns(heap, extent, n, |from, to| {
+    in_columns(alloc, extent, n, |from, to| {
         stretch(store, root, from, to)
     })
 }

@@ -1,12 +1,13 @@
 // Laying pieces at the end of a track.
 ghost use Rattle.std.specs.Prelude.{◌≡◌, ◌^◌, ◌≤◌, [], ◌∷◌, length, Some, None, MatchResult};
+ghost use Rattle.cells.specs.Lent.{SameLoan};
 ghost use Rattle.splits.specs.Owning.{Owns};
 ghost use Rattle.flat.specs.Refusals.{element_limit};
 ghost use Rattle.edits.specs.Edits.{list};
 ghost use Rattle.tracks.specs.Laying.{no_room_fault, not_laid, Lays, Refuses, LaysAll};
 
 use crate::piece::{Laid, Piece};
-use cells::{Cell, NONE, Pool, count_at, release};
+use cells::{NONE, Store};
 use edits::{extent_at, insert};
 use faults::SessionFault;
 use kinds::Kind;
@@ -32,11 +33,7 @@ pub(crate) fn room(extent: u32, elements: u32, free: u32) -> Result<(), SessionF
 
 // Puts the element of a piece at the end of the list of `root`, which is given back; the new root is the caller's.
 // Where that is refused, nothing changes.
-pub fn lay<K: Kind>(
-    store: &mut Store<'_, K>,
-    root: u32,
-    piece: Piece,
-) -> Result<u32, SessionFault>
+pub fn lay<K: Kind>(store: &mut Store<'_, K>, root: u32, piece: Piece) -> Result<u32, SessionFault>
     requires owns { Owns (K.meaning store.old.kind.now) store.old.cells.now store.old.pool (root ∷ []) [] (2 ^ 14) }
     requires few { length (list store.old.cells.now root) ≤ element_limit }
     ensures same { SameLoan store.old store.new }
@@ -56,10 +53,7 @@ pub fn lay<K: Kind>(
 }
 
 // Lays pieces from an empty track on, all of them or up to the first that is refused.
-pub fn lay_all<K: Kind>(
-    store: &mut Store<'_, K>,
-    pieces: &[Piece],
-) -> Laid
+pub fn lay_all<K: Kind>(store: &mut Store<'_, K>, pieces: &[Piece]) -> Laid
     requires { Owns (K.meaning store.old.kind.now) store.old.cells.now store.old.pool [] [] (2 ^ 14) }
     ensures same { SameLoan store.old store.new }
     ensures lays { LaysAll (K.meaning store.old.kind.now) store.old.cells.now store.old.pool pieces.now store.new.cells.now store.new.pool result }

@@ -1,12 +1,13 @@
 // Taking a range out of a track, and putting it in.
 ghost use Rattle.std.specs.Prelude.{◌^◌, ◌≤◌, [], ◌∷◌, length, MatchResult};
+ghost use Rattle.cells.specs.Lent.{SameLoan};
 ghost use Rattle.splits.specs.Owning.{Owns};
 ghost use Rattle.flat.specs.Refusals.{element_limit};
 ghost use Rattle.edits.specs.Edits.{list, edit_takes};
 ghost use Rattle.tracks.specs.Moving.{not_taken, not_put, TakesOut, PutsIn, Declines};
 
 use crate::laying::room;
-use cells::{Cell, Pool, count_at, release};
+use cells::Store;
 use edits::{Removal, cut, extent_at, put};
 use faults::SessionFault;
 use kinds::Kind;

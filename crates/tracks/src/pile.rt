@@ -18,7 +18,7 @@ use tempo::{Beats, Span, Tempo};
 
 // A track over a PCM reel and a mu-law reel, joined, under a gain.
 pub fn rearrange_pile(
-    heap: Global,
+    alloc: Global,
     cells: &mut [Cell<Clip, Levels>],
     first: &[u8],
     second: &[u8],
@@ -32,12 +32,12 @@ pub fn rearrange_pile(
         (NotRearranged (audio (pile first.now second.now gain)) (length cells.old) pieces.now shift)) }
 {
     let kind = Audio::new(piled(first, second, gain)?);
-    rearrange(heap, &kind, cells, pieces, shift)
+    rearrange(alloc, &kind, cells, pieces, shift)
 }
 
 // A track of tempos.
 pub fn rearrange_tempo(
-    heap: Global,
+    alloc: Global,
     cells: &mut [Cell<Span, Beats>],
     pieces: &[Piece],
     shift: Shift,
@@ -46,5 +46,5 @@ pub fn rearrange_tempo(
         (Rearranges tempo pieces.now shift (length cells.old))
         (NotRearranged tempo (length cells.old) pieces.now shift) }
 {
-    rearrange(heap, &Tempo, cells, pieces, shift)
+    rearrange(alloc, &Tempo, cells, pieces, shift)
 }

@@ -2,6 +2,7 @@
 // columns, and every cell comes back.
 ghost use Rattle.std.specs.Prelude.{◌≡◌, ◌^◌, ◌≤◌, [], ◌∷◌, length, Some, MatchResult};
 ghost use Rattle.cells.specs.References.{Arena};
+ghost use Rattle.cells.specs.Lent.{SameLoan};
 ghost use Rattle.splits.specs.Owning.{Owns};
 ghost use Rattle.flat.specs.Refusals.{cells_outside, fewest_cells};
 ghost use Rattle.edits.specs.Edits.{list};
@@ -13,24 +14,27 @@ use crate::moving::{put_in, take_out};
 use crate::piece::Piece;
 use crate::shift::Shift;
 use crate::version::{Made, Rearranged, Version, Versions};
-use cells::{Cell, Pool, count_at, free, release, start};
+use cells::{Cell, Store};
 use edits::extent_at;
 use faults::SessionFault;
 use kinds::Kind;
 use profile::SurveyFault;
 use std::alloc::Global;
 
-// Starts a pool over cells, if they are not too few or too many.
-fn open<K: Kind>(kind: &K, cells: &mut [Cell<K::Element, K::Summary>]) -> Result<Pool, SessionFault>
+// A store of the cells, if they are not too few or too many.
+fn open<'a, K: Kind>(
+    kind: &'a K,
+    cells: &'a mut [Cell<K::Element, K::Summary>],
+) -> Result<Store<'a, K>, SessionFault>
     ensures { MatchResult result
-        (λ pool. Arena (K.meaning kind.now) cells.new pool [] × (pool.free ≡ length cells.old) × (fewest_cells ≤ length cells.old))
+        (λ s. (s.kind ≡ kind.entry) × Arena (K.meaning s.kind.now) s.cells.now s.pool [] × (s.pool.free ≡ length cells.old) × (fewest_cells ≤ length cells.old))
         (λ f. cells_outside (length cells.old) ≡ Some f) }
 {
     let size = cells.len();
     if size < 4096 || size > 65535 {
         return Err(SessionFault::CellsOutside);
     }
-    Ok(start(kind, cells))
+    Ok(Store::start(kind, cells))
 }
 
 // Lays the pieces, takes the range out and puts it in elsewhere. All versions are kept.
@@ -71,10 +75,7 @@ fn keep<K: Kind>(
 }
 
 // What is told of a version.
-fn version_of<K: Kind>(
-    store: &Store<'_, K>,
-    made: Made,
-) -> Version
+fn version_of<K: Kind>(store: &Store<'_, K>, made: Made) -> Version
     requires { Owns (K.meaning store.now.kind.now) store.now.cells.now store.now.pool [] (made.root ∷ []) (2 ^ 16) }
     ensures tells { Tells (K.meaning store.now.kind.now) result (list store.now.cells.now made.root) }
     ensures took { result.took ≡ made.took }
@@ -87,10 +88,7 @@ fn version_of<K: Kind>(
 }
 
 // Gives the four roots back.
-fn let_go<K: Kind>(
-    store: &mut Store<'_, K>,
-    v: Versions,
-)
+fn let_go<K: Kind>(store: &mut Store<'_, K>, v: Versions)
     requires { Held (K.meaning store.old.kind.now) store.old.cells.now store.old.pool (roots v) }
     ensures same { SameLoan store.old store.new }
     ensures moves { Arena (K.meaning store.old.kind.now) store.new.cells.now store.new.pool [] }
@@ -103,7 +101,7 @@ fn let_go<K: Kind>(
 
 // Lays pieces as a track, moves a range of it, and sees the result in columns.
 pub fn rearrange<K: Kind>(
-    heap: Global,
+    alloc: Global,
     kind: &K,
     cells: &mut [Cell<K::Element, K::Summary>],
     pieces: &[Piece],
@@ -113,20 +111,20 @@ pub fn rearrange<K: Kind>(
         (Rearranges (K.meaning kind.now) pieces.now shift (length cells.old))
         (NotRearranged (K.meaning kind.now) (length cells.old) pieces.now shift) }
 {
-    let mut pool = open(kind, cells)?;
-    let v = keep(kind, cells, &mut pool, pieces, shift)?;
-    let columns = columns_of(heap, kind, cells, &pool, v.moved.root, shift.columns)?;
-    let laid = version_of(kind, cells, &pool, v.laid);
-    let cut = version_of(kind, cells, &pool, v.left);
-    let moved = version_of(kind, cells, &pool, v.moved);
-    let clip = count_at(cells, v.range);
-    let_go(kind, cells, &mut pool, v);
+    let mut store = open(kind, cells)?;
+    let v = keep(&mut store, pieces, shift)?;
+    let columns = columns_of(alloc, &store, v.moved.root, shift.columns)?;
+    let laid = version_of(&store, v.laid);
+    let cut = version_of(&store, v.left);
+    let moved = version_of(&store, v.moved);
+    let clip = store.count_at(v.range);
+    let_go(&mut store, v);
     Ok(Rearranged {
         laid,
         cut,
         clip,
         moved,
         columns,
-        free: free(kind, cells, &pool),
+        free: store.free(),
     })
 }

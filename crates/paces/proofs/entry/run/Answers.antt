@@ -13,6 +13,6 @@ release-requires g c = record { owned = ([], end_arena c.start-pool.ensures.aren
 
 pub returns : goal.returns
 returns g c =
-    let long : length c.release.new.cells ≡ length c.start-pool.new.cells = search rules in
-    let all = all_back c.start-pool.ensures.arena c.lay_all-laid.ensures c.worked-sum.ensures c.release.new.cells c.release.new.pool c.release.ensures long in
+    let long : length c.release.new.self.cells.now ≡ length c.start-pool.new.store.cells.now = search rules in
+    let all = all_back c.start-pool.ensures.arena c.lay_all-laid.ensures c.worked-sum.ensures c.release.new.self.cells.now c.release.new.self.pool c.release.ensures.releases long in
     omega (arith, c.free.ensures.0, c.start-pool.ensures.free, c.requires)

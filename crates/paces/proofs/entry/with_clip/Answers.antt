@@ -14,5 +14,5 @@ release-requires g c = record { owned = clip_owned (c.extent_at-end.result / 100
 
 pub returns : goal.returns
 returns g c =
-    let long : length c.release.new.cells ≡ length c.args.cells.now = search rules in
-    clip_rests (c.extent_at-end.result / 100) c.requires.owns c.requires.few c.requires.some c.copy-clip.ensures c.puts_with-sum.ensures c.release.new.cells c.release.new.pool c.release.ensures long
+    let long : length c.release.new.self.cells.now ≡ length c.args.store.now.cells.now = search rules in
+    clip_rests (c.extent_at-end.result / 100) c.requires.owns c.requires.few c.requires.some c.copy-clip.ensures c.puts_with-sum.ensures c.release.new.self.cells.now c.release.new.self.pool c.release.ensures.releases long

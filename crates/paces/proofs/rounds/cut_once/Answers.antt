@@ -7,14 +7,14 @@ release-requires g c = record { owned = left_owned c.requires.owns c.args.root c
 
 pub release-requires-2 : goal.release-requires-2
 release-requires-2 g c = record {
-  owned = taken_owned c.requires.owns c.args.root c.args.from c.args.len c.requires.few c.cut-r.ensures c.release.new.cells c.release.new.pool c.release.ensures;
-  few = taken_light c.requires.owns c.args.root c.args.from c.args.len c.requires.few c.cut-r.ensures c.release.new.cells c.release.new.pool c.release.ensures;
+  owned = taken_owned c.requires.owns c.args.root c.args.from c.args.len c.requires.few c.cut-r.ensures c.release.new.self.cells.now c.release.new.self.pool c.release.ensures.releases;
+  few = taken_light c.requires.owns c.args.root c.args.from c.args.len c.requires.few c.cut-r.ensures c.release.new.self.cells.now c.release.new.self.pool c.release.ensures.releases;
 }
 
 pub returns : goal.returns
 returns g c =
-    let long : length c.release-2.new.cells ≡ length c.args.cells.now = search rules in
+    let long : length c.release-2.new.self.cells.now ≡ length c.args.store.now.cells.now = search rules in
     record {
-      rests = cut_rests c.requires.owns c.args.root c.args.from c.args.len c.requires.few c.cut-r.ensures c.release.new.cells c.release.new.pool c.release.ensures c.release-2.new.cells c.release-2.new.pool c.release-2.ensures long;
+      rests = cut_rests c.requires.owns c.args.root c.args.from c.args.len c.requires.few c.cut-r.ensures c.release.new.self.cells.now c.release.new.self.pool c.release.ensures.releases c.release-2.new.self.cells.now c.release-2.new.self.pool c.release-2.ensures.releases long;
       count = left_count c.requires.owns c.args.root c.args.from c.args.len c.requires.few c.cut-r.ensures c.count_at-n.ensures;
     }

@@ -18,13 +18,13 @@ cut_once-n-requires g c = record {
 
 pub loop-preserved : goal.loop-preserved
 loop-preserved g c =
-    let k = g.K.Kind.meaning c.args.kind.now in
+    let k = g.K.Kind.meaning c.args.store.now.kind.now in
     let root = rests_list c.requires.owns c.loop.invariant.rests c.args.root (at_top c.args.root []) in
     let end = c.extent_at-end.ensures in
-    let gives = cut_from k (list c.args.cells.now c.args.root) in
+    let gives = cut_from k (list c.args.store.now.cells.now c.args.root) in
     let after = λ (s : ℕ). step (step s) in
     record {
-      rests = rests_then k c.args.cells.now c.args.pool.now c.loop.cells c.loop.pool c.cut_once-n.new.cells c.cut_once-n.new.pool c.loop.invariant.rests c.cut_once-n.ensures.rests;
+      rests = rests_then k c.args.store.now.cells.now c.args.store.now.pool c.loop.cells c.loop.pool c.cut_once-n.new.store.cells.now c.cut_once-n.new.store.pool c.loop.invariant.rests c.cut_once-n.ensures.rests;
       state = left_more after gives c.loop.counter c.loop.invariant.state (c.next-len.ensures.state ∙ ap step c.next-from.ensures.state);
       sum = sum_more after gives c.loop.counter c.loop.invariant.state c.loop.invariant.sum (cut_told k root end c.loop.places.state c.next-from.ensures.state c.next-from.ensures.place c.next-len.ensures.state c.next-len.ensures.place c.cut_once-n.ensures.count);
     }

@@ -6,5 +6,5 @@ use Rattle.paces.proofs.rounds.overviews.Given as goal
 abbrev pub invariant-loop : goal.invariant-loop
 invariant-loop g l = record {
   state : l.places.state ≡ left_by (λ s. step (step s)) l.counter;
-  sum : l.sum ≡ lengths (g.K.Kind.meaning l.kind) (list l.cells l.root) l.counter;
+  sum : l.sum ≡ lengths (g.K.Kind.meaning l.store.kind.now) (list l.store.cells.now l.root) l.counter;
 }

@@ -10,8 +10,8 @@ release-requires g c = record {
 
 pub returns : goal.returns
 returns g c =
-    let long : length c.release.new.cells ≡ length c.args.cells.now = search rules in
+    let long : length c.release.new.self.cells.now ≡ length c.args.store.now.cells.now = search rules in
     record {
-      rests = made_rests c.requires.owns c.args.root c.args.place c.args.clip c.requires.few c.put-r.ensures c.release.new.cells c.release.new.pool c.release.ensures long;
+      rests = made_rests c.requires.owns c.args.root c.args.place c.args.clip c.requires.few c.put-r.ensures c.release.new.self.cells.now c.release.new.self.pool c.release.ensures.releases long;
       count = made_count c.requires.owns c.args.root c.args.place c.args.clip c.requires.few c.put-r.ensures c.count_at-n.ensures;
     }

@@ -18,19 +18,19 @@ put_once-n-requires g c =
     record {
       owns = rests_owns c.requires.owns c.loop.invariant.rests;
       few = omega (arith, c.requires.few, ap length root, ap length clip);
-      short = omega (arith, c.requires.short, ap (extent_of (g.K.Kind.meaning c.args.kind.now)) root, ap (extent_of (g.K.Kind.meaning c.args.kind.now)) clip);
+      short = omega (arith, c.requires.short, ap (extent_of (g.K.Kind.meaning c.args.store.now.kind.now)) root, ap (extent_of (g.K.Kind.meaning c.args.store.now.kind.now)) clip);
       some = omega (arith, c.requires.some, rests_free c.requires.owns c.loop.invariant.rests);
     }
 
 pub loop-preserved : goal.loop-preserved
 loop-preserved g c =
-    let k = g.K.Kind.meaning c.args.kind.now in
+    let k = g.K.Kind.meaning c.args.store.now.kind.now in
     let root = rests_list c.requires.owns c.loop.invariant.rests c.args.root (let h = hit_same c.args.root in omega arith) in
     let clip = rests_list c.requires.owns c.loop.invariant.rests c.args.clip (let h = hit_same c.args.clip in omega arith) in
     let end = c.extent_at-end.ensures in
-    let gives = put_from k (list c.args.cells.now c.args.root) (list c.args.cells.now c.args.clip) in
+    let gives = put_from k (list c.args.store.now.cells.now c.args.root) (list c.args.store.now.cells.now c.args.clip) in
     record {
-      rests = rests_then k c.args.cells.now c.args.pool.now c.loop.cells c.loop.pool c.put_once-n.new.cells c.put_once-n.new.pool c.loop.invariant.rests c.put_once-n.ensures.rests;
+      rests = rests_then k c.args.store.now.cells.now c.args.store.now.pool c.loop.cells c.loop.pool c.put_once-n.new.store.cells.now c.put_once-n.new.store.pool c.loop.invariant.rests c.put_once-n.ensures.rests;
       state = left_more step gives c.loop.counter c.loop.invariant.state c.next.ensures.state;
       sum = sum_more step gives c.loop.counter c.loop.invariant.state c.loop.invariant.sum (put_told k root end c.loop.places.state c.next.ensures.state c.next.ensures.place clip c.put_once-n.ensures.count);
     }

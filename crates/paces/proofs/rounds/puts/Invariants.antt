@@ -6,7 +6,7 @@ use Rattle.paces.proofs.rounds.puts.Given as goal
 
 abbrev pub invariant-loop : goal.invariant-loop
 invariant-loop g l = record {
-  rests : Rests (g.K.Kind.meaning l.kind) l.initial.cells l.initial.pool l.cells l.pool;
+  rests : Rests (g.K.Kind.meaning l.store.kind.now) l.initial.store.cells.now l.initial.store.pool l.store.cells.now l.store.pool;
   state : l.places.state ≡ left_by step l.counter;
-  sum : l.sum ≡ put_counts (g.K.Kind.meaning l.kind) (list l.initial.cells l.root) (list l.initial.cells l.clip) l.counter;
+  sum : l.sum ≡ put_counts (g.K.Kind.meaning l.store.kind.now) (list l.initial.store.cells.now l.root) (list l.initial.store.cells.now l.clip) l.counter;
 }

@@ -8,18 +8,18 @@ use Rattle.paces.proofs.Sums.{left_more, sum_more, offset_told}
 use Rattle.paces.proofs.rounds.reads.Goals as goal
 
 pub read-found-requires : goal.read-found-requires
-read-found-requires g c = rw c.new-view.ensures (record {
-  within = omega (arith, c.requires.some, c.extent_at-end.ensures, c.next.ensures.inside, wide (g.K.Kind.meaning c.args.kind.now) c.args.cells.now c.args.root);
+read-found-requires g c = rw c.of-view.ensures (record {
+  within = omega (arith, c.requires.some, c.extent_at-end.ensures, c.next.ensures.inside, wide (g.K.Kind.meaning c.args.store.now.kind.now) c.args.store.now.cells.now c.args.root);
   few = c.requires.few;
 })
 
 pub loop-preserved : goal.loop-preserved
 loop-preserved g c =
-    let k = g.K.Kind.meaning c.args.kind.now in
-    let is : c.extent_at-end.result - 1 ≡ extent_of k (list c.args.cells.now c.args.root) - 1 = omega (arith, c.extent_at-end.ensures) in
-    let reads : Reads k c.args.cells.now c.args.root c.next.result c.read-found.result = rw c.new-view.ensures at c.read-found.ensures.reads in
-    let gives = offset_from k (list c.args.cells.now c.args.root) in
+    let k = g.K.Kind.meaning c.args.store.now.kind.now in
+    let is : c.extent_at-end.result - 1 ≡ extent_of k (list c.args.store.now.cells.now c.args.root) - 1 = omega (arith, c.extent_at-end.ensures) in
+    let reads : Reads k c.args.store.now.cells.now c.args.root c.next.result c.read-found.result = rw c.of-view.ensures at c.read-found.ensures.reads in
+    let gives = offset_from k (list c.args.store.now.cells.now c.args.root) in
     record {
       state = left_more step gives c.loop.counter c.loop.invariant.state c.next.ensures.state;
-      sum = sum_more step gives c.loop.counter c.loop.invariant.state c.loop.invariant.sum (offset_told k c.args.cells.now c.args.root is c.loop.places.state c.next.ensures.state c.next.ensures.place reads);
+      sum = sum_more step gives c.loop.counter c.loop.invariant.state c.loop.invariant.sum (offset_told k c.args.store.now.cells.now c.args.root is c.loop.places.state c.next.ensures.state c.next.ensures.place reads);
     }

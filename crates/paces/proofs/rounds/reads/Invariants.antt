@@ -6,5 +6,5 @@ use Rattle.paces.proofs.rounds.reads.Given as goal
 abbrev pub invariant-loop : goal.invariant-loop
 invariant-loop g l = record {
   state : l.places.state ≡ left_by step l.counter;
-  sum : l.sum ≡ offsets (g.K.Kind.meaning l.kind) (list l.cells l.root) l.counter;
+  sum : l.sum ≡ offsets (g.K.Kind.meaning l.store.kind.now) (list l.store.cells.now l.root) l.counter;
 }

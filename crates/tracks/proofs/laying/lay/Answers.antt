@@ -10,7 +10,7 @@ pub returns-in_err-element : goal.returns-in_err-element
 returns-in_err-element g c =
     let p = err_from_is_err_and c.from_residual.result c.from_residual.ensures.1 in
     rw (p.1, p.2) (record {
-      because = not_made (g.K.Kind.meaning c.args.kind.now) (list c.args.cells.now c.args.root) c.args.pool.now.free c.args.piece c.in_err-element.field-0.0 c.in_err-element.ensures;
+      because = not_made (g.K.Kind.meaning c.args.store.now.kind.now) (list c.args.store.now.cells.now c.args.root) c.args.store.now.pool.free c.args.piece c.in_err-element.field-0.0 c.in_err-element.ensures;
       same_cells = refl;
       same_pool = refl;
     })
@@ -20,15 +20,15 @@ extent_at-end-requires g c = record { sound = c.requires.owns.arena.sound; live 
 
 pub overflow_add-extent : goal.overflow_add-extent
 overflow_add-extent g c =
-    let lawful : Lawful (g.K.Kind.meaning c.args.kind.now) c.in_ok-element.element = of_numbers c.args.piece.first c.args.piece.second c.in_ok-element.element (search rules) (search rules) (sym c.in_ok-element.ensures) in
-    record { fits = omega (arith, c.extent.ensures lawful, (g.K.Kind.laws c.args.kind.now).few c.in_ok-element.element lawful, c.extent_at-end.ensures, top_short c.requires.owns.arena) }
+    let lawful : Lawful (g.K.Kind.meaning c.args.store.now.kind.now) c.in_ok-element.element = of_numbers c.args.piece.first c.args.piece.second c.in_ok-element.element (search rules) (search rules) (sym c.in_ok-element.ensures) in
+    record { fits = omega (arith, c.extent.ensures lawful, (g.K.Kind.laws c.args.store.now.kind.now).few c.in_ok-element.element lawful, c.extent_at-end.ensures, top_short c.requires.owns.arena) }
 
 pub overflow_add-elements : goal.overflow_add-elements
 overflow_add-elements g c = record { fits = omega (arith, c.count_at-elements.ensures, top_count c.requires.owns.arena, c.requires.few) }
 
 pub returns-in_err-room : goal.returns-in_err-room
 returns-in_err-room g c =
-    let lawful : Lawful (g.K.Kind.meaning c.args.kind.now) c.in_ok-element.element = of_numbers c.args.piece.first c.args.piece.second c.in_ok-element.element (search rules) (search rules) (sym c.in_ok-element.ensures) in
+    let lawful : Lawful (g.K.Kind.meaning c.args.store.now.kind.now) c.in_ok-element.element = of_numbers c.args.piece.first c.args.piece.second c.in_ok-element.element (search rules) (search rules) (sym c.in_ok-element.ensures) in
     let p = err_from_is_err_and c.from_residual-in_err-room.result c.from_residual-in_err-room.ensures.1 in
     rw (p.1, p.2) (record { because = laid_room c.requires.owns.arena c.requires.few c.args.piece c.in_ok-element.ensures c.extent_at-end.ensures (c.extent.ensures lawful) c.count_at-elements.ensures ∙ c.in_err-room.ensures; same_cells = refl; same_pool = refl })
 
@@ -37,20 +37,20 @@ insert-r-requires-clause-lawful g c = of_numbers c.args.piece.first c.args.piece
 
 pub insert-r-requires-clause-few : goal.insert-r-requires-clause-few
 insert-r-requires-clause-few g c =
-    let lawful : Lawful (g.K.Kind.meaning c.args.kind.now) c.in_ok-element.element = of_numbers c.args.piece.first c.args.piece.second c.in_ok-element.element (search rules) (search rules) (sym c.in_ok-element.ensures) in
+    let lawful : Lawful (g.K.Kind.meaning c.args.store.now.kind.now) c.in_ok-element.element = of_numbers c.args.piece.first c.args.piece.second c.in_ok-element.element (search rules) (search rules) (sym c.in_ok-element.ensures) in
     fewer c.requires.owns.arena c.requires.few c.args.piece c.in_ok-element.ensures c.extent_at-end.ensures (c.extent.ensures lawful) c.count_at-elements.ensures c.in_ok-room.ensures
 
 pub insert-r-requires-clause-short : goal.insert-r-requires-clause-short
 insert-r-requires-clause-short g c =
-    let lawful : Lawful (g.K.Kind.meaning c.args.kind.now) c.in_ok-element.element = of_numbers c.args.piece.first c.args.piece.second c.in_ok-element.element (search rules) (search rules) (sym c.in_ok-element.ensures) in
+    let lawful : Lawful (g.K.Kind.meaning c.args.store.now.kind.now) c.in_ok-element.element = of_numbers c.args.piece.first c.args.piece.second c.in_ok-element.element (search rules) (search rules) (sym c.in_ok-element.ensures) in
     shorter c.requires.owns.arena c.requires.few c.args.piece c.in_ok-element.ensures c.extent_at-end.ensures (c.extent.ensures lawful) c.count_at-elements.ensures c.in_ok-room.ensures
 
 pub release-requires : goal.release-requires
 release-requires g c =
-    let lawful : Lawful (g.K.Kind.meaning c.args.kind.now) c.in_ok-element.element = of_numbers c.args.piece.first c.args.piece.second c.in_ok-element.element (search rules) (search rules) (sym c.in_ok-element.ensures) in
+    let lawful : Lawful (g.K.Kind.meaning c.args.store.now.kind.now) c.in_ok-element.element = of_numbers c.args.piece.first c.args.piece.second c.in_ok-element.element (search rules) (search rules) (sym c.in_ok-element.ensures) in
     record { owned = old_owned c.requires.owns.arena c.requires.few c.args.piece c.in_ok-element.ensures c.extent_at-end.ensures (c.extent.ensures lawful) c.count_at-elements.ensures c.in_ok-room.ensures c.insert-r.ensures; few = old_few c.requires.owns.arena c.requires.few c.args.piece c.in_ok-element.ensures c.extent_at-end.ensures (c.extent.ensures lawful) c.count_at-elements.ensures c.in_ok-room.ensures c.insert-r.ensures }
 
 pub returns : goal.returns
 returns g c =
-    let lawful : Lawful (g.K.Kind.meaning c.args.kind.now) c.in_ok-element.element = of_numbers c.args.piece.first c.args.piece.second c.in_ok-element.element (search rules) (search rules) (sym c.in_ok-element.ensures) in
-    lays c.requires.owns.arena c.requires.few c.args.piece c.in_ok-element.ensures c.extent_at-end.ensures (c.extent.ensures lawful) c.count_at-elements.ensures c.in_ok-room.ensures c.insert-r.ensures c.release.new.cells c.release.new.pool c.release.ensures
+    let lawful : Lawful (g.K.Kind.meaning c.args.store.now.kind.now) c.in_ok-element.element = of_numbers c.args.piece.first c.args.piece.second c.in_ok-element.element (search rules) (search rules) (sym c.in_ok-element.ensures) in
+    lays c.requires.owns.arena c.requires.few c.args.piece c.in_ok-element.ensures c.extent_at-end.ensures (c.extent.ensures lawful) c.count_at-elements.ensures c.in_ok-room.ensures c.insert-r.ensures c.release.new.self.cells.now c.release.new.self.pool c.release.ensures.releases

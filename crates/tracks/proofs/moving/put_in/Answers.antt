@@ -10,13 +10,13 @@ extent_at-end-requires g c = record { sound = c.requires.owns.arena.sound; live 
 pub returns-then-place-end : goal.returns-then-place-end
 returns-then-place-end g c = record {
   because = beyond c.requires.owns c.args.place c.extent_at-end.ensures (omega arith);
-  each = unmoved (g.K.Kind.meaning c.args.kind.now) c.args.cells.now c.args.pool.now;
+  each = unmoved (g.K.Kind.meaning c.args.store.now.kind.now) c.args.store.now.cells.now c.args.store.now.pool;
 }
 
 pub returns-then-more-eq0 : goal.returns-then-more-eq0
 returns-then-more-eq0 g c = record {
   because = no_clip c.requires.owns c.args.place c.extent_at-end.ensures (omega arith) c.count_at-more.ensures (omega arith);
-  each = unmoved (g.K.Kind.meaning c.args.kind.now) c.args.cells.now c.args.pool.now;
+  each = unmoved (g.K.Kind.meaning c.args.store.now.kind.now) c.args.store.now.cells.now c.args.store.now.pool;
 }
 
 pub extent_at-requires : goal.extent_at-requires
@@ -30,7 +30,7 @@ returns-in_err-room g c =
     let p = err_from_is_err_and c.from_residual.result c.from_residual.ensures.1 in
     rw (p.1, p.2) (record {
       because = too_much c.requires.owns c.args.place c.extent_at-end.ensures (omega arith) c.count_at-more.ensures (λ z. omega arith) c.extent_at.ensures c.count_at.ensures c.saturating_add-elements.ensures c.in_err-room.ensures;
-      each = unmoved (g.K.Kind.meaning c.args.kind.now) c.args.cells.now c.args.pool.now;
+      each = unmoved (g.K.Kind.meaning c.args.store.now.kind.now) c.args.store.now.cells.now c.args.store.now.pool;
     })
 
 pub put-r-requires-clause-few : goal.put-r-requires-clause-few
@@ -45,7 +45,7 @@ release-requires g c = record { owned = new_owned c.requires.owns c.args.place c
 pub returns-in-Err : goal.returns-in-Err
 returns-in-Err g c = record {
   because = new_room c.requires.owns c.args.place c.extent_at-end.ensures (omega arith) c.count_at-more.ensures (λ z. omega arith) c.extent_at.ensures c.count_at.ensures c.saturating_add-elements.ensures c.in_ok-room.ensures c.put-r.ensures c.count_at-2.ensures ∙ c.in-Err.ensures;
-  each = new_back c.requires.owns c.args.place c.extent_at-end.ensures (omega arith) c.count_at-more.ensures (λ z. omega arith) c.extent_at.ensures c.count_at.ensures c.saturating_add-elements.ensures c.in_ok-room.ensures c.put-r.ensures c.release.new.cells c.release.new.pool c.release.ensures;
+  each = new_back c.requires.owns c.args.place c.extent_at-end.ensures (omega arith) c.count_at-more.ensures (λ z. omega arith) c.extent_at.ensures c.count_at.ensures c.saturating_add-elements.ensures c.in_ok-room.ensures c.put-r.ensures c.release.new.self.cells.now c.release.new.self.pool c.release.ensures.releases;
 }
 
 pub returns : goal.returns

@@ -6,8 +6,8 @@ use Rattle.tracks.proofs.moving.take_out.Goals as goal
 
 pub returns-then-len-eq0 : goal.returns-then-len-eq0
 returns-then-len-eq0 g c = record {
-  because = taken_empty (g.K.Kind.meaning c.args.kind.now) (list c.args.cells.now c.args.root) c.args.pool.now.free c.args.from c.args.len (omega arith);
-  each = unmoved (g.K.Kind.meaning c.args.kind.now) c.args.cells.now c.args.pool.now;
+  because = taken_empty (g.K.Kind.meaning c.args.store.now.kind.now) (list c.args.store.now.cells.now c.args.root) c.args.store.now.pool.free c.args.from c.args.len (omega arith);
+  each = unmoved (g.K.Kind.meaning c.args.store.now.kind.now) c.args.store.now.cells.now c.args.store.now.pool;
 }
 
 pub extent_at-requires : goal.extent_at-requires
@@ -16,7 +16,7 @@ extent_at-requires g c = record { sound = c.requires.owns.arena.sound; live = le
 pub returns-then-from-len : goal.returns-then-from-len
 returns-then-from-len g c = record {
   because = past_end c.requires.owns c.requires.few c.args.from c.args.len (λ z. omega arith) c.extent_at.ensures (omega arith);
-  each = unmoved (g.K.Kind.meaning c.args.kind.now) c.args.cells.now c.args.pool.now;
+  each = unmoved (g.K.Kind.meaning c.args.store.now.kind.now) c.args.store.now.cells.now c.args.store.now.pool;
 }
 
 pub release-requires : goal.release-requires
@@ -24,14 +24,14 @@ release-requires g c = record { owned = left_owned c.requires.owns c.requires.fe
 
 pub release-requires-in-Err : goal.release-requires-in-Err
 release-requires-in-Err g c = record {
-  owned = taken_owned c.requires.owns c.requires.few c.args.from c.args.len (λ z. omega arith) c.extent_at.ensures (omega arith) c.cut-r.ensures c.release.new.cells c.release.new.pool c.release.ensures;
-  few = taken_few c.requires.owns c.requires.few c.args.from c.args.len (λ z. omega arith) c.extent_at.ensures (omega arith) c.cut-r.ensures c.release.new.cells c.release.new.pool c.release.ensures;
+  owned = taken_owned c.requires.owns c.requires.few c.args.from c.args.len (λ z. omega arith) c.extent_at.ensures (omega arith) c.cut-r.ensures c.release.new.self.cells.now c.release.new.self.pool c.release.ensures.releases;
+  few = taken_few c.requires.owns c.requires.few c.args.from c.args.len (λ z. omega arith) c.extent_at.ensures (omega arith) c.cut-r.ensures c.release.new.self.cells.now c.release.new.self.pool c.release.ensures.releases;
 }
 
 pub returns-in-Err : goal.returns-in-Err
 returns-in-Err g c = record {
   because = left_room c.requires.owns c.requires.few c.args.from c.args.len (λ z. omega arith) c.extent_at.ensures (omega arith) c.cut-r.ensures c.count_at.ensures ∙ c.in-Err.ensures;
-  each = both_back c.requires.owns c.requires.few c.args.from c.args.len (λ z. omega arith) c.extent_at.ensures (omega arith) c.cut-r.ensures c.release.new.cells c.release.new.pool c.release.ensures c.release-in-Err.new.cells c.release-in-Err.new.pool c.release-in-Err.ensures;
+  each = both_back c.requires.owns c.requires.few c.args.from c.args.len (λ z. omega arith) c.extent_at.ensures (omega arith) c.cut-r.ensures c.release.new.self.cells.now c.release.new.self.pool c.release.ensures.releases c.release-in-Err.new.self.cells.now c.release-in-Err.new.self.pool c.release-in-Err.ensures.releases;
 }
 
 pub returns : goal.returns

@@ -16,9 +16,9 @@ returns g c = record {
   left = rw (← c.in_ok-v.ensures.is_left) c.version_of-cut.ensures.tells;
   clip = c.count_at-clip.ensures ∙ owned_count c.in_ok-v.ensures.arena c.in_ok-v.v.range (let h = hit_same c.in_ok-v.v.range in omega arith) ∙ ap length c.in_ok-v.ensures.is_range;
   moved = rw (← c.in_ok-v.ensures.is_moved) c.version_of-moved.ensures.tells;
-  columns = c.in_ok-columns.ensures ∙ ap (λ l. map (column (g.K.Kind.meaning c.args.kind.now) (atoms_of (g.K.Kind.meaning c.args.kind.now) l) c.args.shift.columns) (range_with_len 0 c.args.shift.columns)) c.in_ok-v.ensures.is_moved;
+  columns = c.in_ok-columns.ensures ∙ ap (λ l. map (column (g.K.Kind.meaning c.args.store.now.kind.now) (atoms_of (g.K.Kind.meaning c.args.store.now.kind.now) l) c.args.shift.columns) (range_with_len 0 c.args.shift.columns)) c.in_ok-v.ensures.is_moved;
   laid_took = omega (arith, c.version_of-laid.ensures.took, c.in_ok-v.ensures.laid_took);
   cut_took = omega (arith, c.version_of-cut.ensures.took, c.in_ok-v.ensures.cut_took);
   moved_took = omega (arith, c.version_of-moved.ensures.took, c.in_ok-v.ensures.moved_took);
-  free = omega (arith, c.free.ensures.0, all_free (g.K.Kind.meaning c.args.kind.now) c.let_go.new.cells c.let_go.new.pool (c.free.ensures.1 [] c.let_go.ensures), c.let_go.auto.cells, c.keep.auto.cells, c.open.auto.cells);
+  free = omega (arith, c.free.ensures.0, all_free (g.K.Kind.meaning c.args.store.now.kind.now) c.let_go.new.store.cells.now c.let_go.new.store.pool (c.free.ensures.1 [] c.let_go.ensures), c.let_go.auto.cells, c.keep.auto.cells, c.open.auto.cells);
 }
