@@ -37,9 +37,6 @@ module _ {E A S : Type 0} {k : Meaning E A S} (flip : Bool) {a : List (Cell E S)
   pub near_alive : {x : ℕ} → x ≡ near flip c → Live a x
   near_alive e = subst (Live a) (sym e) (near_live k flip a i c good)
 
-  pub room : Holds k a p [] (2 ^ 30)
-  room = record { rest = i ∷ holds.rest; arena = holds.arena; few = omega (arith, holds.few) }
-
   module _ {x : ℕ} {b : List (Cell E S)} (one : Retains k a x b) where
     held : Arena k b p (x ∷ i ∷ holds.rest)
     held = (one.each p (i ∷ holds.rest) holds.arena).arena

@@ -42,9 +42,6 @@ module _ {E A S : Type 0} {k : Meaning E A S} (flip : Bool) {a : List (Cell E S)
   abbrev Z : Tree E
   Z = seen flip a z
 
-  pub low_fits : Sits k (node X top.element (node Y item.element Z)) → Whole k item → Fits k Y item Z
-  low_fits sits whole = sits_fits k Y item Z (sits_right k X top.element (node Y item.element Z) sits) whole
-
   pub low_first : Arena k a p (y ∷ z ∷ (x ∷ rest))
   low_first = rerooted k a p (x ∷ y ∷ z ∷ rest) arena (y ∷ z ∷ (x ∷ rest)) (λ i h. omega arith)
 

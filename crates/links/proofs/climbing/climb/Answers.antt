@@ -2,15 +2,9 @@ use Rattle.std.proofs.Common.{sym, subst}
 use Rattle.std.proofs.lemmas.List.{length_push}
 use Rattle.std.proofs.lemmas.Iterator.Adapters.{YieldsList-from_rev_slice}
 use Rattle.std.proofs.lemmas.Iterator.Consumers.{YieldsList-turn, YieldsList-end}
-use Rattle.cells.specs.Lent.{same_loan_refl, same_loan_trans}
-use Rattle.links.proofs.Climbs.{Climbing, climbing_start, turn, climbing_end}
+use Rattle.cells.specs.Lent.{same_loan_trans}
+use Rattle.links.proofs.Climbs.{Climbing, turn, climbing_end}
 use Rattle.links.proofs.climbing.climb.Goals as goal
-
-pub loop-i-init : goal.loop-i-init
-loop-i-init g c = (
-  same_loan_refl _,
-  climbing_start (g.K.Kind.meaning c.args.store.now.kind.now) c.args.flip c.args.store.now.cells.now c.args.store.now.pool c.args.low c.args.right c.args.path.now.items c.requires.climbs,
-)
 
 pub raise-x-requires : goal.raise-x-requires
 raise-x-requires g c =

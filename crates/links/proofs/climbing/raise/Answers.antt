@@ -1,11 +1,8 @@
-use Rattle.links.proofs.Raises.{far_alive, room, both_hold, both_sit, passed_whole, raises}
+use Rattle.links.proofs.Raises.{far_alive, both_hold, both_sit, passed_whole, raises}
 use Rattle.links.proofs.climbing.raise.Goals as goal
 
-pub retain-requires : goal.retain-requires
-retain-requires g c = record {
-  holds = (c.args.store.now.pool, room c.args.flip c.requires.above c.cell_at-c.ensures);
-  live = far_alive c.args.flip c.requires.above c.cell_at-c.ensures c.far_of-far.ensures;
-}
+pub retain-requires-clause-live : goal.retain-requires-clause-live
+retain-requires-clause-live g c = far_alive c.args.flip c.requires.above c.cell_at-c.ensures c.far_of-far.ensures
 
 pub rebalance-requires : goal.rebalance-requires
 rebalance-requires g c = record {

@@ -1,28 +1,19 @@
 use Rattle.std.proofs.Common.{◌∷◌, arith}
 use Rattle.cells.specs.Lent.{same_loan_trans}
-use Rattle.links.proofs.Hangs.{x_live, y_live, x_few, y_few, deep, room, foot_live, arena_b, fits_b, holds_c, tabled_c, climbs_c, some_c, arena_d, few_d, hangs}
+use Rattle.links.proofs.Hangs.{x_few, y_few, deep, foot_live, arena_b, fits_b, holds_c, tabled_c, climbs_c, some_c, arena_d, few_d, hangs}
 use Rattle.links.proofs.hanging.hang.Goals as goal
 
-pub sink-foot-requires : goal.sink-foot-requires
-sink-foot-requires g c = record {
-  empty = c.new-path.ensures;
-  sound = c.requires.holds.arena.sound;
-  live = (
-    x_live c.args.flip c.args.item c.requires.holds c.requires.linkable c.requires.heavy,
-    y_live c.args.flip c.args.item c.requires.holds c.requires.linkable c.requires.heavy,
-  );
-  few = (
-    x_few c.args.flip c.args.item c.requires.holds c.requires.linkable c.requires.heavy,
-    y_few c.args.flip c.args.item c.requires.holds c.requires.linkable c.requires.heavy,
-  );
-  deep = deep c.args.flip c.args.item c.requires.holds c.requires.linkable c.requires.heavy;
-}
+pub sink-foot-requires-clause-few : goal.sink-foot-requires-clause-few
+sink-foot-requires-clause-few g c = (
+  x_few c.args.flip c.args.item c.requires.holds c.requires.linkable c.requires.heavy,
+  y_few c.args.flip c.args.item c.requires.holds c.requires.linkable c.requires.heavy,
+)
 
-pub retain-requires : goal.retain-requires
-retain-requires g c = record {
-  holds = (c.args.store.now.pool, room c.args.flip c.args.item c.requires.holds c.requires.linkable c.requires.heavy);
-  live = foot_live c.args.flip c.args.item c.requires.holds c.requires.linkable c.requires.heavy c.sink-foot.ensures;
-}
+pub sink-foot-requires-clause-deep : goal.sink-foot-requires-clause-deep
+sink-foot-requires-clause-deep g c = deep c.args.flip c.args.item c.requires.holds c.requires.linkable c.requires.heavy
+
+pub retain-requires-clause-live : goal.retain-requires-clause-live
+retain-requires-clause-live g c = foot_live c.args.flip c.args.item c.requires.holds c.requires.linkable c.requires.heavy c.sink-foot.ensures
 
 pub make_facing-low-requires : goal.make_facing-low-requires
 make_facing-low-requires g c = record {

@@ -8,14 +8,11 @@ overflow_add-before g c = let fits = x_fits c.args.item c.requires.holds c.requi
 pub overflow_add-behind : goal.overflow_add-behind
 overflow_add-behind g c = let fits = y_fits c.args.item c.requires.holds c.requires.linkable in omega (arith, c.count_at-behind.ensures)
 
-pub hang-requires : goal.hang-requires
-hang-requires g c = record {
-  holds = c.requires.holds;
-  linkable = c.requires.linkable;
-  heavy = right_heavy_is c.args.item c.requires.holds c.requires.linkable c.count_at-before.ensures c.count_at-behind.ensures c.outweighs.ensures c.if-outweighs.true;
-  whole = c.requires.whole;
-  some = right_some c.args.item c.requires.holds c.requires.linkable c.count_at-before.ensures c.count_at-behind.ensures c.outweighs.ensures c.if-outweighs.true c.requires.some;
-}
+pub hang-requires-clause-heavy : goal.hang-requires-clause-heavy
+hang-requires-clause-heavy g c = right_heavy_is c.args.item c.requires.holds c.requires.linkable c.count_at-before.ensures c.count_at-behind.ensures c.outweighs.ensures c.if-outweighs.true
+
+pub hang-requires-clause-some : goal.hang-requires-clause-some
+hang-requires-clause-some g c = right_some c.args.item c.requires.holds c.requires.linkable c.count_at-before.ensures c.count_at-behind.ensures c.outweighs.ensures c.if-outweighs.true c.requires.some
 
 pub hang-requires-then-outweighs-2 : goal.hang-requires-then-outweighs-2
 hang-requires-then-outweighs-2 g c = record {
@@ -26,12 +23,11 @@ hang-requires-then-outweighs-2 g c = record {
   some = left_some c.args.item c.requires.holds c.requires.linkable c.count_at-before.ensures c.count_at-behind.ensures c.outweighs.ensures c.outweighs-2.ensures c.if-outweighs-2.true c.requires.some;
 }
 
-pub make-requires : goal.make-requires
-make-requires g c = record {
-  owned = (c.requires.holds.rest, c.requires.holds.arena);
-  fits = even_fits c.args.item c.requires.holds c.requires.linkable c.count_at-before.ensures c.count_at-behind.ensures c.outweighs.ensures c.outweighs-2.ensures c.if-outweighs.false c.if-outweighs-2.false c.requires.whole;
-  some = even_some c.args.item c.requires.holds c.requires.linkable c.count_at-before.ensures c.count_at-behind.ensures c.outweighs.ensures c.outweighs-2.ensures c.if-outweighs.false c.if-outweighs-2.false c.requires.some;
-}
+pub make-requires-clause-fits : goal.make-requires-clause-fits
+make-requires-clause-fits g c = even_fits c.args.item c.requires.holds c.requires.linkable c.count_at-before.ensures c.count_at-behind.ensures c.outweighs.ensures c.outweighs-2.ensures c.if-outweighs.false c.if-outweighs-2.false c.requires.whole
+
+pub make-requires-clause-some : goal.make-requires-clause-some
+make-requires-clause-some g c = even_some c.args.item c.requires.holds c.requires.linkable c.count_at-before.ensures c.count_at-behind.ensures c.outweighs.ensures c.outweighs-2.ensures c.if-outweighs.false c.if-outweighs-2.false c.requires.some
 
 pub returns-then-outweighs : goal.returns-then-outweighs
 returns-then-outweighs g c =

@@ -1,11 +1,8 @@
-use Rattle.links.proofs.Openings.{near_alive, room, room_left, far_alive, opens}
+use Rattle.links.proofs.Openings.{near_alive, room_left, far_alive, opens}
 use Rattle.links.proofs.opening.open.Goals as goal
 
-pub retain-requires : goal.retain-requires
-retain-requires g c = record {
-  holds = (c.requires.holds.0, room c.args.flip c.requires.holds.1 c.cell_at-c.ensures);
-  live = near_alive c.args.flip c.requires.holds.1 c.cell_at-c.ensures c.near_of-near.ensures;
-}
+pub retain-requires-clause-live : goal.retain-requires-clause-live
+retain-requires-clause-live g c = near_alive c.args.flip c.requires.holds.1 c.cell_at-c.ensures c.near_of-near.ensures
 
 pub retain-requires-2 : goal.retain-requires-2
 retain-requires-2 g c = record {

@@ -8,26 +8,18 @@ overflow_add-inner g c = let fits = y_fits c.args.flip c.args.parts.item c.args.
 pub overflow_add-outer : goal.overflow_add-outer
 overflow_add-outer g c = let fits = x_fits c.args.flip c.args.parts.item c.args.item c.requires.holds c.requires.sits in omega (arith, c.count_at-outer.ensures)
 
-pub rotate_once-requires : goal.rotate_once-requires
-rotate_once-requires g c = record {
-  owned = (c.requires.holds.rest, c.requires.holds.arena);
-  sits = sits_once c.args.flip c.args.parts.item c.args.item c.requires.holds c.requires.sits c.count_at-inner.ensures c.count_at-outer.ensures c.rotates_once.ensures c.if-rotates_once.true;
-  whole = c.requires.whole;
-  some = omega (arith, c.requires.some);
-}
+pub rotate_once-requires-clause-sits : goal.rotate_once-requires-clause-sits
+rotate_once-requires-clause-sits g c = sits_once c.args.flip c.args.parts.item c.args.item c.requires.holds c.requires.sits c.count_at-inner.ensures c.count_at-outer.ensures c.rotates_once.ensures c.if-rotates_once.true
 
 pub returns-then-rotates_once-clause-yields : goal.returns-then-rotates_once-clause-yields
 returns-then-rotates_once-clause-yields g c =
     yields_once c.args.flip c.args.parts.item c.args.item c.requires.holds c.requires.sits c.count_at-inner.ensures c.count_at-outer.ensures c.rotates_once.ensures c.if-rotates_once.true c.rotate_once.ensures.yields
 
-pub rotate_twice-requires : goal.rotate_twice-requires
-rotate_twice-requires g c = record {
-  holds = c.requires.holds;
-  inner = inner_heavy c.args.flip c.args.parts.item c.args.item c.requires.holds c.requires.sits c.count_at-inner.ensures c.count_at-outer.ensures c.rotates_once.ensures c.if-rotates_once.false;
-  sits = sits_twice c.args.flip c.args.parts.item c.args.item c.requires.holds c.requires.sits c.count_at-inner.ensures c.count_at-outer.ensures c.rotates_once.ensures c.if-rotates_once.false;
-  whole = c.requires.whole;
-  some = c.requires.some;
-}
+pub rotate_twice-requires-clause-inner : goal.rotate_twice-requires-clause-inner
+rotate_twice-requires-clause-inner g c = inner_heavy c.args.flip c.args.parts.item c.args.item c.requires.holds c.requires.sits c.count_at-inner.ensures c.count_at-outer.ensures c.rotates_once.ensures c.if-rotates_once.false
+
+pub rotate_twice-requires-clause-sits : goal.rotate_twice-requires-clause-sits
+rotate_twice-requires-clause-sits g c = sits_twice c.args.flip c.args.parts.item c.args.item c.requires.holds c.requires.sits c.count_at-inner.ensures c.count_at-outer.ensures c.rotates_once.ensures c.if-rotates_once.false
 
 pub returns-clause-yields : goal.returns-clause-yields
 returns-clause-yields g c =

@@ -1,13 +1,9 @@
 use Rattle.std.proofs.Common.{◌∷◌, arith}
-use Rattle.links.proofs.Rotations.{low_fits, low_first, low_arena, top_fits, rotated_once}
+use Rattle.links.proofs.Rotations.{low_first, low_arena, top_fits, rotated_once}
 use Rattle.links.proofs.rotating.rotate_once.Goals as goal
 
-pub make_facing-low-requires : goal.make_facing-low-requires
-make_facing-low-requires g c = record {
-  owned = (c.args.parts.near ∷ c.requires.owned.0, low_first c.args.flip c.args.parts.item c.args.item c.requires.owned.1);
-  fits = low_fits c.args.flip c.args.parts.item c.args.item c.requires.owned.1 c.requires.sits c.requires.whole.1;
-  some = omega (arith, c.requires.some);
-}
+pub make_facing-low-requires-clause-owned : goal.make_facing-low-requires-clause-owned
+make_facing-low-requires-clause-owned g c = (c.args.parts.near ∷ c.requires.owned.0, low_first c.args.flip c.args.parts.item c.args.item c.requires.owned.1)
 
 pub make_facing-requires : goal.make_facing-requires
 make_facing-requires g c = record {
