@@ -27,7 +27,7 @@ fn open<'a, K: Kind>(
     cells: &'a mut [Cell<K::Element, K::Summary>],
 ) -> Result<Store<'a, K>, SessionFault>
     ensures { MatchResult result
-        (λ s. (s.kind ≡ kind.entry) × Arena (K.meaning s.kind.now) s.cells.now s.pool [] × (s.pool.free ≡ length cells.old) × (fewest_cells ≤ length cells.old))
+        (λ s. (s.kind ≡ kind.entry) × Arena (K.meaning s.kind.now) s.cells.now s.pool [] × (s.pool.free ≡ length cells.old) × (fewest_cells ≤ length cells.old) × (length s.cells.now ≡ length cells.old))
         (λ f. cells_outside (length cells.old) ≡ Some f) }
 {
     let size = cells.len();
@@ -91,7 +91,7 @@ fn version_of<K: Kind>(store: &Store<'_, K>, made: Made) -> Version
 fn let_go<K: Kind>(store: &mut Store<'_, K>, v: Versions)
     requires { Held (K.meaning store.old.kind.now) store.old.cells.now store.old.pool (roots v) }
     ensures same { SameLoan store.old store.new }
-    ensures moves { Arena (K.meaning store.old.kind.now) store.new.cells.now store.new.pool [] }
+    ensures arena { Arena (K.meaning store.old.kind.now) store.new.cells.now store.new.pool [] }
 {
     store.release(v.moved.root);
     store.release(v.left.root);

@@ -6,8 +6,8 @@ use Rattle.edits.proofs.Roots.{top_live, top_count, top_short}
 use Rattle.tracks.proofs.Pieces.{not_made, laid_room, fewer, shorter, old_owned, old_few, lays}
 use Rattle.tracks.proofs.laying.lay.Goals as goal
 
-pub returns-in_err-element : goal.returns-in_err-element
-returns-in_err-element g c =
+pub returns-in_err-element-clause-lays : goal.returns-in_err-element-clause-lays
+returns-in_err-element-clause-lays g c =
     let p = err_from_is_err_and c.from_residual.result c.from_residual.ensures.1 in
     rw (p.1, p.2) (record {
       because = not_made (g.K.Kind.meaning c.args.store.now.kind.now) (list c.args.store.now.cells.now c.args.root) c.args.store.now.pool.free c.args.piece c.in_err-element.field-0.0 c.in_err-element.ensures;
@@ -26,8 +26,8 @@ overflow_add-extent g c =
 pub overflow_add-elements : goal.overflow_add-elements
 overflow_add-elements g c = record { fits = omega (arith, c.count_at-elements.ensures, top_count c.requires.owns.arena, c.requires.few) }
 
-pub returns-in_err-room : goal.returns-in_err-room
-returns-in_err-room g c =
+pub returns-in_err-room-clause-lays : goal.returns-in_err-room-clause-lays
+returns-in_err-room-clause-lays g c =
     let lawful : Lawful (g.K.Kind.meaning c.args.store.now.kind.now) c.in_ok-element.element = of_numbers c.args.piece.first c.args.piece.second c.in_ok-element.element (search rules) (search rules) (sym c.in_ok-element.ensures) in
     let p = err_from_is_err_and c.from_residual-in_err-room.result c.from_residual-in_err-room.ensures.1 in
     rw (p.1, p.2) (record { because = laid_room c.requires.owns.arena c.requires.few c.args.piece c.in_ok-element.ensures c.extent_at-end.ensures (c.extent.ensures lawful) c.count_at-elements.ensures ∙ c.in_err-room.ensures; same_cells = refl; same_pool = refl })
@@ -48,9 +48,9 @@ insert-r-requires-clause-short g c =
 pub release-requires : goal.release-requires
 release-requires g c =
     let lawful : Lawful (g.K.Kind.meaning c.args.store.now.kind.now) c.in_ok-element.element = of_numbers c.args.piece.first c.args.piece.second c.in_ok-element.element (search rules) (search rules) (sym c.in_ok-element.ensures) in
-    record { owned = old_owned c.requires.owns.arena c.requires.few c.args.piece c.in_ok-element.ensures c.extent_at-end.ensures (c.extent.ensures lawful) c.count_at-elements.ensures c.in_ok-room.ensures c.insert-r.ensures; few = old_few c.requires.owns.arena c.requires.few c.args.piece c.in_ok-element.ensures c.extent_at-end.ensures (c.extent.ensures lawful) c.count_at-elements.ensures c.in_ok-room.ensures c.insert-r.ensures }
+    record { owned = rw c.insert-r.ensures.same.kind (old_owned c.requires.owns.arena c.requires.few c.args.piece c.in_ok-element.ensures c.extent_at-end.ensures (c.extent.ensures lawful) c.count_at-elements.ensures c.in_ok-room.ensures c.insert-r.ensures.makes); few = old_few c.requires.owns.arena c.requires.few c.args.piece c.in_ok-element.ensures c.extent_at-end.ensures (c.extent.ensures lawful) c.count_at-elements.ensures c.in_ok-room.ensures c.insert-r.ensures.makes }
 
-pub returns : goal.returns
-returns g c =
+pub returns-clause-lays : goal.returns-clause-lays
+returns-clause-lays g c =
     let lawful : Lawful (g.K.Kind.meaning c.args.store.now.kind.now) c.in_ok-element.element = of_numbers c.args.piece.first c.args.piece.second c.in_ok-element.element (search rules) (search rules) (sym c.in_ok-element.ensures) in
-    lays c.requires.owns.arena c.requires.few c.args.piece c.in_ok-element.ensures c.extent_at-end.ensures (c.extent.ensures lawful) c.count_at-elements.ensures c.in_ok-room.ensures c.insert-r.ensures c.release.new.self.cells.now c.release.new.self.pool c.release.ensures.releases
+    lays c.requires.owns.arena c.requires.few c.args.piece c.in_ok-element.ensures c.extent_at-end.ensures (c.extent.ensures lawful) c.count_at-elements.ensures c.in_ok-room.ensures c.insert-r.ensures.makes c.release.new.self.cells.now c.release.new.self.pool (rw c.insert-r.ensures.same.kind at c.release.ensures.releases)
