@@ -12,7 +12,7 @@ use Rattle.balance.proofs.Ways.{span_extents}
 use Rattle.balance.proofs.Links.{hung_elements, hung_balanced}
 use Rattle.cells.specs.declared.cell.Cell.{Cell}
 use Rattle.cells.specs.Cells.{shape, seen, near, far, linked, Live, Sound}
-use Rattle.cells.specs.Reach.{child, Alike, Stays}
+use Rattle.cells.specs.Reach.{child, Stays}
 use Rattle.cells.proofs.Lists.{none_past}
 use Rattle.cells.proofs.Staying.{alike_child, reached_live}
 use Rattle.cells.proofs.Moving.{seen_stays}
