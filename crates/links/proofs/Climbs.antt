@@ -1,6 +1,7 @@
 -- The loop up a path of passed cells.
 use Rattle.std.proofs.Common.{◌≡◌, ℕ, zero, suc, ◌+◌, ◌-◌, ◌*◌, ◌^◌, ◌<◌, ◌≤◌, Bool, List, [], ◌∷◌, ◌++◌, length, get_or, reverse, Some, None, Option, sym, refl, ap, ◌∙◌, subst, arith}
 use Rattle.std.specs.List.{slice_get}
+use Rattle.std.proofs.lemmas.Option.{slice_get_within}
 use Rattle.std.proofs.lemmas.List.{get_or-reverse, length-reverse}
 use Rattle.std.proofs.lemmas.Grind.{get_or_default_zero}
 use Rattle.kinds.specs.Kinds.{Meaning}
@@ -11,10 +12,10 @@ use Rattle.cells.specs.Cells.{seen}
 use Rattle.cells.specs.Reach.{child, follow, Alike, Stays, Reached}
 use Rattle.cells.specs.References.{Arena, Holds}
 use Rattle.cells.specs.Moves.{Moves, Makes}
-use Rattle.cells.proofs.Lists.{some_in, none_past}
-use Rattle.cells.proofs.Staying.{follow_more, stays_refl, stays_trans, follow_same}
+use Rattle.cells.proofs.Lists.{none_past}
+use Rattle.cells.proofs.Staying.{follow_more, stays_trans, follow_same}
 use Rattle.cells.proofs.Names.{hit_same}
-use Rattle.cells.proofs.Moving.{moves_none, moves_then, seen_stays}
+use Rattle.cells.proofs.Moving.{moves_then, seen_stays}
 use Rattle.links.specs.Sitting.{Sits}
 use Rattle.links.specs.Climbing.{raised, descent, climbed, Tabled, Climbs, Above, Raises}
 
@@ -27,7 +28,7 @@ stays_below a b r (s ∷ path) stays = stays_below a b (child s r (slice_get a r
 alike_inside : {E S : Type 0} (a b : List (Cell E S)) (i : ℕ) (o p : Option (Cell E S)) → slice_get a i ≡ o → slice_get b i ≡ p → Alike o p → i < length a → i < length b
 alike_inside a b i None p ea eb alike h = absurd (omega (arith, none_past a i ea))
 alike_inside a b i (Some c) None ea eb alike h = absurd alike
-alike_inside a b i (Some c) (Some d) ea eb alike h = some_in b i d eb
+alike_inside a b i (Some c) (Some d) ea eb alike h = slice_get_within b i d eb
 
 module _ {E S : Type 0} (flip : Bool) (a : List (Cell E S)) (top : ℕ) where
   -- a descent is a path
@@ -67,11 +68,6 @@ pub record Climbing {E A S : Type 0} (k : Meaning E A S) (flip : Bool) (a : List
   pub stays : Stays a b top
   pub same : climbed flip a top n (seen flip b x) ≡ climbed flip a top (length path) (seen flip a low)
   pub sits : Climbs k flip a top n (seen flip b x)
-
-pub climbing_start : {E A S : Type 0} (k : Meaning E A S) (flip : Bool) (a : List (Cell E S)) (p : Pool) (low top : ℕ) (path : List ℕ)
-    → Climbs k flip a top (length path) (seen flip a low) → Climbing k flip a p low top path a p low 0
-climbing_start k flip a p low top path sits =
-    record { n = length path; left = omega arith; each = moves_none k a p (low ∷ top ∷ []); stays = stays_refl a top; same = refl; sits = sits }
 
 -- the turn of the loop at the cell i
 pub record Turn {E A S : Type 0} (k : Meaning E A S) (flip : Bool) (a : List (Cell E S)) (p : Pool) (low top : ℕ) (path : List ℕ) (b : List (Cell E S)) (q : Pool) (x passed i : ℕ) : Type 0 where

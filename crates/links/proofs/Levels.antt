@@ -1,6 +1,5 @@
 -- The levels that a light tree L passes on the near side of a heavy one, and what is made of them on the way up.
-use Rattle.std.proofs.Common.{◌≡◌, ℕ, zero, suc, ◌*◌, ◌<◌, ◌≤◌, Bool, ltb, List, [], length, get_or, Some, None, Option, sym, refl, ap, ◌∙◌, subst, arith, le-ltb, lt-ltb}
-use Rattle.std.proofs.lemmas.Option.{slice_get_within}
+use Rattle.std.proofs.Common.{◌≡◌, ℕ, zero, suc, ◌*◌, ◌<◌, ◌≤◌, Bool, ltb, List, [], length, Some, None, Option, sym, refl, ap, ◌∙◌, subst, arith, le-ltb, lt-ltb}
 use Rattle.std.specs.List.{slice_get}
 use Rattle.kinds.specs.Kinds.{Meaning}
 use Rattle.balance.specs.Trees.{Tree, leaf, node, count, weight, elements, Balanced, Δ}
@@ -13,7 +12,7 @@ use Rattle.balance.proofs.Ways.{span_extents}
 use Rattle.balance.proofs.Links.{hung_elements, hung_balanced}
 use Rattle.cells.specs.declared.cell.Cell.{Cell}
 use Rattle.cells.specs.Cells.{shape, seen, near, far, linked, Live, Sound}
-use Rattle.cells.specs.Reach.{child, Alike, Stays}
+use Rattle.cells.specs.Reach.{child, Stays}
 use Rattle.cells.proofs.Lists.{none_past}
 use Rattle.cells.proofs.Staying.{alike_child, reached_live}
 use Rattle.cells.proofs.Moving.{seen_stays}
@@ -42,11 +41,6 @@ same_span k t u e = span_extents (shape k) t ∙ ap (extents (shape k)) e ∙ sy
 some_at : {X : Type 0} (a : List X) (i : ℕ) (o : Option X) → slice_get a i ≡ o → i < length a → ((x : X) × (slice_get a i ≡ Some x))
 some_at a i None e h = absurd (omega (arith, none_past a i e))
 some_at a i (Some x) e h = (x, e)
-
-alike_inside : {E S : Type 0} (a b : List (Cell E S)) (i : ℕ) (o p : Option (Cell E S)) → slice_get a i ≡ o → slice_get b i ≡ p → Alike o p → i < length a → i < length b
-alike_inside a b i None p ea eb alike h = absurd (omega (arith, none_past a i ea))
-alike_inside a b i (Some c) None ea eb alike h = absurd alike
-alike_inside a b i (Some c) (Some d) ea eb alike h = slice_get_within b i d eb
 
 module _ {E A S : Type 0} (k : Meaning E A S) (flip : Bool) (a b : List (Cell E S)) (top : ℕ) (stays : Stays a b top) where
   pub descent_same : (n : ℕ) → descent flip b top n ≡ descent flip a top n

@@ -10,7 +10,7 @@ pub raise-x-requires : goal.raise-x-requires
 raise-x-requires g c =
     let at = YieldsList-turn (YieldsList-from_rev_slice c.args.path.now.items cc) c.loop-i.yielded _ c.loop-i.yielded_by _ _ c.in-Some.field-0 c.in-Some.is c.next.ensures.steps in
     let t = turn c.requires.holds c.requires.tabled c.loop-i.invariant.1 c.in-Some.field-0.now at in
-    record { above = rw c.loop-i.invariant.0.kind t.above; inside = t.inside; sits = rw c.loop-i.invariant.0.kind t.sits; some = t.some c.requires.some }
+    rw c.loop-i.invariant.0.kind (record { above = t.above; inside = t.inside; sits = t.sits; some = t.some c.requires.some })
 
 pub loop-i-preserved : goal.loop-i-preserved
 loop-i-preserved g c =

@@ -5,12 +5,12 @@ pub retain-requires-clause-live : goal.retain-requires-clause-live
 retain-requires-clause-live g c = far_alive c.args.flip c.requires.above c.cell_at-c.ensures c.far_of-far.ensures
 
 pub rebalance-requires : goal.rebalance-requires
-rebalance-requires g c = record {
-  holds = rw (c.retain.ensures.same.kind, c.retain.ensures.pool) (both_hold c.args.flip c.requires.above c.cell_at-c.ensures c.retain.ensures.retains);
-  sits = rw c.retain.ensures.same.kind (both_sit c.args.flip c.requires.above c.cell_at-c.ensures c.retain.ensures.retains c.far_of-far.ensures c.from.ensures c.requires.sits);
-  whole = rw c.retain.ensures.same.kind (passed_whole c.args.flip c.requires.above c.cell_at-c.ensures c.from.ensures);
-  some = rw c.retain.ensures.pool c.requires.some;
-}
+rebalance-requires g c = rw (c.retain.ensures.same.kind, c.retain.ensures.pool) (record {
+  holds = both_hold c.args.flip c.requires.above c.cell_at-c.ensures c.retain.ensures.retains;
+  sits = both_sit c.args.flip c.requires.above c.cell_at-c.ensures c.retain.ensures.retains c.far_of-far.ensures c.from.ensures c.requires.sits;
+  whole = passed_whole c.args.flip c.requires.above c.cell_at-c.ensures c.from.ensures;
+  some = c.requires.some;
+})
 
 pub returns-clause-yields : goal.returns-clause-yields
 returns-clause-yields g c =

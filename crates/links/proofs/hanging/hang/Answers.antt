@@ -16,22 +16,22 @@ pub retain-requires-clause-live : goal.retain-requires-clause-live
 retain-requires-clause-live g c = foot_live c.args.flip c.args.item c.requires.holds c.requires.linkable c.requires.heavy c.sink-foot.ensures
 
 pub make_facing-low-requires : goal.make_facing-low-requires
-make_facing-low-requires g c = record {
-  owned = rw (c.retain.ensures.same.kind, c.retain.ensures.pool) (c.args.right ∷ c.requires.holds.rest, arena_b c.args.flip c.args.item c.requires.holds c.requires.linkable c.requires.heavy c.sink-foot.ensures c.retain.ensures.retains);
-  fits = rw c.retain.ensures.same.kind (fits_b c.args.flip c.args.item c.requires.holds c.requires.linkable c.requires.heavy c.sink-foot.ensures c.retain.ensures.retains c.requires.whole);
-  some = rw c.retain.ensures.pool (omega (arith, c.requires.some));
-}
+make_facing-low-requires g c = rw (c.retain.ensures.same.kind, c.retain.ensures.pool) (record {
+  owned = (c.args.right ∷ c.requires.holds.rest, arena_b c.args.flip c.args.item c.requires.holds c.requires.linkable c.requires.heavy c.sink-foot.ensures c.retain.ensures.retains);
+  fits = fits_b c.args.flip c.args.item c.requires.holds c.requires.linkable c.requires.heavy c.sink-foot.ensures c.retain.ensures.retains c.requires.whole;
+  some = omega (arith, c.requires.some);
+})
 
 pub climb-r-requires : goal.climb-r-requires
 climb-r-requires g c =
     let made = rw (c.retain.ensures.same.kind, c.retain.ensures.pool) at c.make_facing-low.ensures.yields in
     let same = same_loan_trans c.retain.ensures.same c.make_facing-low.ensures.same in
-    record {
-      holds = rw same.kind (holds_c c.args.flip c.args.item c.requires.holds c.requires.linkable c.requires.heavy c.sink-foot.ensures c.retain.ensures.retains made);
+    rw same.kind (record {
+      holds = holds_c c.args.flip c.args.item c.requires.holds c.requires.linkable c.requires.heavy c.sink-foot.ensures c.retain.ensures.retains made;
       tabled = tabled_c c.args.flip c.args.item c.requires.holds c.requires.linkable c.requires.heavy c.sink-foot.ensures c.retain.ensures.retains made;
-      climbs = rw same.kind (climbs_c c.args.flip c.args.item c.requires.holds c.requires.linkable c.requires.heavy c.sink-foot.ensures c.retain.ensures.retains made);
+      climbs = climbs_c c.args.flip c.args.item c.requires.holds c.requires.linkable c.requires.heavy c.sink-foot.ensures c.retain.ensures.retains made;
       some = some_c c.args.flip c.args.item c.requires.holds c.requires.linkable c.requires.heavy c.sink-foot.ensures c.retain.ensures.retains made c.requires.some;
-    }
+    })
 
 pub release-requires : goal.release-requires
 release-requires g c =
@@ -39,13 +39,13 @@ release-requires g c =
     let made_same = same_loan_trans c.retain.ensures.same c.make_facing-low.ensures.same in
     let climbed = rw made_same.kind at c.climb-r.ensures.raises in
     let same = same_loan_trans made_same c.climb-r.ensures.same in
-    record {
-      owned = rw same.kind (
+    rw same.kind (record {
+      owned = (
         c.climb-r.result ∷ c.requires.holds.rest,
         arena_d c.args.flip c.args.item c.requires.holds c.requires.linkable c.requires.heavy c.sink-foot.ensures c.retain.ensures.retains made climbed,
       );
       few = few_d c.args.flip c.args.item c.requires.holds c.requires.linkable c.requires.heavy c.sink-foot.ensures c.retain.ensures.retains made climbed;
-    }
+    })
 
 pub returns-clause-yields : goal.returns-clause-yields
 returns-clause-yields g c =

@@ -20,24 +20,24 @@ pub open-parts-requires-clause-inside : goal.open-parts-requires-clause-inside
 open-parts-requires-clause-inside g c = heavy_inside c.args.flip c.args.item c.requires.holds c.requires.sits c.count_at-heavy.ensures c.count_at-light.ensures c.outweighs.ensures c.if-not-outweighs.false
 
 pub rotate-top-requires : goal.rotate-top-requires
-rotate-top-requires g c = record {
-  holds = rw (c.open-parts.ensures.same.kind, c.open-parts.ensures.pool) (parts_hold c.args.flip c.args.item c.requires.holds c.requires.sits c.count_at-heavy.ensures c.count_at-light.ensures c.outweighs.ensures c.if-not-outweighs.false c.open-parts.ensures.opens);
-  sits = rw c.open-parts.ensures.same.kind (turned_sits c.args.flip c.args.item c.requires.holds c.requires.sits c.count_at-heavy.ensures c.count_at-light.ensures c.outweighs.ensures c.if-not-outweighs.false c.open-parts.ensures.opens);
-  whole = rw c.open-parts.ensures.same.kind (c.open-parts.ensures.opens.whole, c.requires.whole);
-  some = rw c.open-parts.ensures.pool c.requires.some;
-}
+rotate-top-requires g c = rw (c.open-parts.ensures.same.kind, c.open-parts.ensures.pool) (record {
+  holds = parts_hold c.args.flip c.args.item c.requires.holds c.requires.sits c.count_at-heavy.ensures c.count_at-light.ensures c.outweighs.ensures c.if-not-outweighs.false c.open-parts.ensures.opens;
+  sits = turned_sits c.args.flip c.args.item c.requires.holds c.requires.sits c.count_at-heavy.ensures c.count_at-light.ensures c.outweighs.ensures c.if-not-outweighs.false c.open-parts.ensures.opens;
+  whole = (c.open-parts.ensures.opens.whole, c.requires.whole);
+  some = c.requires.some;
+})
 
 pub release-requires : goal.release-requires
 release-requires g c =
     let turned = rw (c.open-parts.ensures.same.kind, c.open-parts.ensures.pool) at c.rotate-top.ensures.yields in
     let same = same_loan_trans c.open-parts.ensures.same c.rotate-top.ensures.same in
-    record {
-      owned = rw same.kind (
+    rw same.kind (record {
+      owned = (
         c.rotate-top.result ∷ c.requires.holds.rest,
         turn_arena c.args.flip c.args.item c.requires.holds c.requires.sits c.count_at-heavy.ensures c.count_at-light.ensures c.outweighs.ensures c.if-not-outweighs.false c.open-parts.ensures.opens turned,
       );
       few = turn_few c.args.flip c.args.item c.requires.holds c.requires.sits c.count_at-heavy.ensures c.count_at-light.ensures c.outweighs.ensures c.if-not-outweighs.false c.open-parts.ensures.opens turned;
-    }
+    })
 
 pub returns-clause-yields : goal.returns-clause-yields
 returns-clause-yields g c =

@@ -6,11 +6,11 @@ pub make_facing-low-requires-clause-owned : goal.make_facing-low-requires-clause
 make_facing-low-requires-clause-owned g c = (c.args.parts.near ∷ c.requires.owned.0, low_first c.args.flip c.args.parts.item c.args.item c.requires.owned.1)
 
 pub make_facing-requires : goal.make_facing-requires
-make_facing-requires g c = record {
-  owned = rw c.make_facing-low.ensures.same.kind (c.requires.owned.0, low_arena c.args.flip c.args.parts.item c.args.item c.requires.owned.1 c.make_facing-low.ensures.yields);
-  fits = rw c.make_facing-low.ensures.same.kind (top_fits c.args.flip c.args.parts.item c.args.item c.requires.owned.1 c.make_facing-low.ensures.yields c.requires.sits c.requires.whole.0);
+make_facing-requires g c = rw c.make_facing-low.ensures.same.kind (record {
+  owned = (c.requires.owned.0, low_arena c.args.flip c.args.parts.item c.args.item c.requires.owned.1 c.make_facing-low.ensures.yields);
+  fits = top_fits c.args.flip c.args.parts.item c.args.item c.requires.owned.1 c.make_facing-low.ensures.yields c.requires.sits c.requires.whole.0;
   some = omega (arith, c.requires.some, c.make_facing-low.ensures.taken);
-}
+})
 
 pub returns-clause-yields : goal.returns-clause-yields
 returns-clause-yields g c =

@@ -10,25 +10,24 @@ open-inner-requires g c = record {
 }
 
 pub make_facing-first-requires : goal.make_facing-first-requires
-make_facing-first-requires g c = record {
-  owned = rw (c.open-inner.ensures.same.kind, c.open-inner.ensures.pool)
-      (c.args.parts.far ∷ c.args.right ∷ c.open-inner.result.far ∷ c.requires.holds.rest, arena_1 c.args.flip c.args.parts.item c.args.item c.requires.holds c.requires.sits c.open-inner.ensures.opens);
-  fits = rw c.open-inner.ensures.same.kind (fits_1 c.args.flip c.args.parts.item c.args.item c.requires.holds c.requires.sits c.open-inner.ensures.opens c.requires.whole.0);
-  some = rw c.open-inner.ensures.pool (omega (arith, c.requires.some));
-}
+make_facing-first-requires g c = rw (c.open-inner.ensures.same.kind, c.open-inner.ensures.pool) (record {
+  owned = (c.args.parts.far ∷ c.args.right ∷ c.open-inner.result.far ∷ c.requires.holds.rest, arena_1 c.args.flip c.args.parts.item c.args.item c.requires.holds c.requires.sits c.open-inner.ensures.opens);
+  fits = fits_1 c.args.flip c.args.parts.item c.args.item c.requires.holds c.requires.sits c.open-inner.ensures.opens c.requires.whole.0;
+  some = omega (arith, c.requires.some);
+})
 
 pub make_facing-second-requires : goal.make_facing-second-requires
 make_facing-second-requires g c =
     let one = rw (c.open-inner.ensures.same.kind, c.open-inner.ensures.pool) at c.make_facing-first.ensures.yields in
     let same = same_loan_trans c.open-inner.ensures.same c.make_facing-first.ensures.same in
-    record {
-      owned = rw same.kind (
+    rw same.kind (record {
+      owned = (
         c.make_facing-first.result ∷ c.args.parts.far ∷ c.requires.holds.rest,
         arena_2 c.args.flip c.args.parts.item c.args.item c.requires.holds c.requires.sits c.open-inner.ensures.opens one,
       );
-      fits = rw same.kind (fits_2 c.args.flip c.args.parts.item c.args.item c.requires.holds c.requires.sits c.open-inner.ensures.opens one c.requires.whole.1);
+      fits = fits_2 c.args.flip c.args.parts.item c.args.item c.requires.holds c.requires.sits c.open-inner.ensures.opens one c.requires.whole.1;
       some = omega (arith, c.requires.some, rw c.open-inner.ensures.pool at c.make_facing-first.ensures.taken);
-    }
+    })
 
 pub make_facing-top-requires : goal.make_facing-top-requires
 make_facing-top-requires g c =
@@ -36,14 +35,14 @@ make_facing-top-requires g c =
     let one_same = same_loan_trans c.open-inner.ensures.same c.make_facing-first.ensures.same in
     let two = rw one_same.kind at c.make_facing-second.ensures.yields in
     let same = same_loan_trans one_same c.make_facing-second.ensures.same in
-    record {
-      owned = rw same.kind (
+    rw same.kind (record {
+      owned = (
         c.args.parts.far ∷ c.requires.holds.rest,
         arena_3 c.args.flip c.args.parts.item c.args.item c.requires.holds c.requires.sits c.open-inner.ensures.opens one two,
       );
-      fits = rw same.kind (fits_3 c.args.flip c.args.parts.item c.args.item c.requires.holds c.requires.sits c.open-inner.ensures.opens one two);
+      fits = fits_3 c.args.flip c.args.parts.item c.args.item c.requires.holds c.requires.sits c.open-inner.ensures.opens one two;
       some = omega (arith, c.requires.some, rw c.open-inner.ensures.pool at c.make_facing-first.ensures.taken, c.make_facing-second.ensures.taken);
-    }
+    })
 
 pub release-requires : goal.release-requires
 release-requires g c =
@@ -53,13 +52,13 @@ release-requires g c =
     let two_same = same_loan_trans one_same c.make_facing-second.ensures.same in
     let three = rw two_same.kind at c.make_facing-top.ensures.yields in
     let same = same_loan_trans two_same c.make_facing-top.ensures.same in
-    record {
-      owned = rw same.kind (
+    rw same.kind (record {
+      owned = (
         c.make_facing-top.result ∷ c.requires.holds.rest,
         arena_4 c.args.flip c.args.parts.item c.args.item c.requires.holds c.requires.sits c.open-inner.ensures.opens one two three,
       );
       few = few_4 c.args.flip c.args.parts.item c.args.item c.requires.holds c.requires.sits c.open-inner.ensures.opens one two three;
-    }
+    })
 
 pub returns-clause-yields : goal.returns-clause-yields
 returns-clause-yields g c =
