@@ -2,7 +2,7 @@
 use Rattle.std.proofs.Common.{◌≡◌, ℕ, ◌+◌, ◌-◌, ◌^◌, ◌<◌, ◌≤◌, ◌≢◌, List, [], ◌∷◌, length, get_or, set, Some, None, Option, sym, refl, ap, ◌∙◌, subst, ⊎_elim, add-one, arith, length-set}
 use Rattle.std.specs.List.{slice_get}
 use Rattle.std.proofs.lemmas.Bool.{cases_eq}
-use Rattle.std.proofs.lemmas.Option.{get_or_from_slice_get}
+use Rattle.std.proofs.lemmas.Option.{get_or_from_slice_get, slice_get_within}
 use Rattle.kinds.specs.Kinds.{Meaning}
 use Rattle.cells.specs.declared.cell.Cell.{Cell}
 use Rattle.cells.specs.declared.pool.Pool.{Pool}
@@ -10,7 +10,7 @@ use Rattle.cells.specs.Cells.{counted, cell_count, referred, refs_at, linked, Li
 use Rattle.cells.specs.Reach.{hit, occurs, Among, SameCell, AllStay, Remains, Takes}
 use Rattle.cells.specs.References.{links, Counted, Chain, Arena}
 use Rattle.cells.specs.Moves.{with_refs, retained_at, retained, Retains, GivesUp}
-use Rattle.cells.proofs.Lists.{some_in, none_past, nth_set_same, nth_set_other}
+use Rattle.cells.proofs.Lists.{none_past, nth_set_same, nth_set_other}
 use Rattle.cells.proofs.Staying.{stays_sym, stays_refl, takes_none, takes_refl, remains_stays}
 use Rattle.cells.proofs.Names.{hit_same, hit_other, links_live, links_set, used_set, names_few}
 use Rattle.cells.proofs.Writes.{remains_recounted, remained_recounted, remained_freed, sound_recounted, sound_freed, chain_kept}
@@ -18,7 +18,7 @@ use Rattle.cells.proofs.Writes.{remains_recounted, remained_recounted, remained_
 module _ {E A S : Type 0} (k : Meaning E A S) (a : List (Cell E S)) (p : Pool) (rs : List ℕ) (arena : Arena k a p rs) where
   rooted_at : (i : ℕ) (o : Option (Cell E S)) → slice_get a i ≡ o → Among rs i → linked o
   rooted_at i None e h = tt
-  rooted_at i (Some c) e h = let n = arena.counts i (some_in a i c e) in let r = ap referred e in omega arith
+  rooted_at i (Some c) e h = let n = arena.counts i (slice_get_within a i c e) in let r = ap referred e in omega arith
 
   -- what a root names is in use
   pub rooted : (i : ℕ) → Among rs i → Live a i
@@ -27,7 +27,7 @@ module _ {E A S : Type 0} (k : Meaning E A S) (a : List (Cell E S)) (p : Pool) (
   refs_at_lem : (i : ℕ) (o : Option (Cell E S)) → slice_get a i ≡ o → referred o ≤ 131070 + length rs
   refs_at_lem i None e = omega arith
   refs_at_lem i (Some c) e =
-      let n = arena.counts i (some_in a i c e) in let r = ap referred e in
+      let n = arena.counts i (slice_get_within a i c e) in let r = ap referred e in
       omega (arith, names_few a rs i, arena.all, arena.long)
 
   -- at most two links from each cell, and the roots
@@ -92,7 +92,7 @@ module _ {E A S : Type 0} (k : Meaning E A S) (a : List (Cell E S)) (i : ℕ) (c
       let l = links_kept j was now in
       let o = counts j (simp length-set at within) in
       ⊎_elim
-      (λ q. let h = ap (refs_at (set a i d)) q ∙ ap referred (nth_set_same a i d (some_in a i c at)) in
+      (λ q. let h = ap (refs_at (set a i d)) q ∙ ap referred (nth_set_same a i d (slice_get_within a i c at)) in
       let w = ap (refs_at a) q ∙ ap referred at in
       let x = ap (occurs rs) q in let y = ap (occurs ys) q in
       omega arith)
@@ -158,7 +158,7 @@ module _ {E A S : Type 0} {k : Meaning E A S} {a : List (Cell E S)} {i : ℕ} wh
 
 count_set : {E S : Type 0} (a : List (Cell E S)) (x : ℕ) (c d : Cell E S) → slice_get a x ≡ Some c → d.count ≡ c.count → (j : ℕ) → cell_count (set a x d) j ≡ cell_count a j
 count_set a x c d at same j = ⊎_elim
-    (λ q. ap (cell_count (set a x d)) q ∙ ap counted (nth_set_same a x d (some_in a x c at)) ∙ same ∙ sym (ap counted at) ∙ sym (ap (cell_count a) q))
+    (λ q. ap (cell_count (set a x d)) q ∙ ap counted (nth_set_same a x d (slice_get_within a x c at)) ∙ same ∙ sym (ap counted at) ∙ sym (ap (cell_count a) q))
     (λ ne. ap counted (nth_set_other a x j d ne))
     (cases_eq j x)
 
@@ -185,7 +185,7 @@ module _ {E A S : Type 0} (k : Meaning E A S) (a : List (Cell E S)) (p : Pool) (
       let o = counts j (simp length-set at within) in
       ⊎_elim
       (λ q. let h = ap (λ x. hit x j) (sym q) ∙ hit_same j in
-      let now = ap (refs_at (set a i (first_free p c))) q ∙ ap referred (nth_set_same a i (first_free p c) (some_in a i c at)) in
+      let now = ap (refs_at (set a i (first_free p c))) q ∙ ap referred (nth_set_same a i (first_free p c) (slice_get_within a i c at)) in
       let was = ap (refs_at a) q ∙ ap referred at in
       omega arith)
       (λ ne. let h = hit_other i j ne in let same = ap referred (nth_set_other a i j (first_free p c) ne) in omega arith)
@@ -195,14 +195,14 @@ module _ {E A S : Type 0} (k : Meaning E A S) (a : List (Cell E S)) (p : Pool) (
   arena_freed rs one arena =
       let u = used_set a i c (first_free p c) at in
       let l = length-set a i (first_free p c) in
-      let n = arena.counts i (some_in a i c at) in
+      let n = arena.counts i (slice_get_within a i c at) in
       let r = ap referred at in
       let h = hit_same i in
       record {
         sound = sound_freed k a i c at (first_free p c) arena.sound (omega arith) refl;
         counts = counted_freed rs one arena.counts;
         chain = subst (λ m. Chain m (set a i (first_free p c)) i) (sym (add-one p.free))
-            (first_free p c, nth_set_same a i (first_free p c) (some_in a i c at), refl, chain_kept a i (first_free p c) c at (omega arith) p.free p.head arena.chain);
+            (first_free p c, nth_set_same a i (first_free p c) (slice_get_within a i c at), refl, chain_kept a i (first_free p c) c at (omega arith) p.free p.head arena.chain);
         all = omega (arith, arena.all);
         long = omega (arith, arena.long);
       }

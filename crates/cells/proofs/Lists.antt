@@ -1,11 +1,7 @@
 -- Reading and writing one place of a list.
 use Rattle.std.proofs.Common.{◌≡◌, ℕ, zero, suc, ◌<◌, ◌≤◌, ◌≢◌, List, [], ◌∷◌, length, set, Some, None, Option, refl, ap, arith}
 use Rattle.std.specs.List.{slice_get}
-
-pub some_in : {X : Type 0} (xs : List X) (i : ℕ) (x : X) → slice_get xs i ≡ Some x → i < length xs
-some_in [] i x e = absurd (let z : ◌≡◌ {A = ℕ} 0 1 = cc in omega arith)
-some_in (y ∷ xs) zero x e = omega arith
-some_in (y ∷ xs) (suc i) x e = let h = some_in xs i x e in omega arith
+pub use Rattle.std.proofs.lemmas.Option.{slice_get_within as some_in}
 
 pub none_past : {X : Type 0} (xs : List X) (i : ℕ) → slice_get xs i ≡ None → length xs ≤ i
 none_past [] i e = omega arith

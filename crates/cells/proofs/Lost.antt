@@ -1,5 +1,6 @@
 -- What is in use is what the roots reach, and all else is free.
 use Rattle.std.proofs.Common.{◌≡◌, ℕ, zero, suc, ◌+◌, ◌<◌, ◌≤◌, min, max, Bool, true, false, List, [], ◌∷◌, ◌++◌, length, take, Some, None, Option, refl, ap, ◌∙◌, subst, ⊎_elim, arith}
+use Rattle.std.proofs.lemmas.Option.{slice_get_within}
 use Rattle.std.specs.List.{slice_get}
 use Rattle.std.proofs.lemmas.List.{take_all}
 use Rattle.std.proofs.lemmas.Bool.{cases_lt}
@@ -7,18 +8,12 @@ use Rattle.kinds.specs.Kinds.{Meaning}
 use Rattle.cells.specs.declared.cell.Cell.{Cell}
 use Rattle.cells.specs.declared.pool.Pool.{Pool}
 use Rattle.cells.specs.Cells.{counted, cell_count, referred, refs_at, linked, Live}
-use Rattle.cells.specs.Reach.{occurs, child, follow, Reached, HowMany, none, one, other}
+use Rattle.cells.specs.Reach.{occurs, child, Reached, HowMany, none, one, other}
 use Rattle.cells.specs.References.{used, Arena, NoneLost}
-use Rattle.cells.proofs.Lists.{some_in, none_past}
-use Rattle.cells.proofs.Staying.{reached_live}
+use Rattle.cells.proofs.Lists.{none_past}
+use Rattle.cells.proofs.Staying.{follow_more, reached_live}
 use Rattle.cells.proofs.Names.{Parent, named_parent}
 use Rattle.cells.proofs.Arenas.{rooted}
-
--- one step more at the end of a path
-follow_last : {E S : Type 0} (a : List (Cell E S)) (r : ℕ) (path : List Bool) (side : Bool) (j : ℕ) (c : Cell E S)
-    → follow a r path ≡ j → slice_get a j ≡ Some c → follow a r (path ++ (side ∷ [])) ≡ child side j (Some c)
-follow_last a r [] side j c leads at = ap (λ i. child side i (slice_get a i)) leads ∙ ap (child side j) at
-follow_last a r (s ∷ path) side j c leads at = follow_last a (child s r (slice_get a r)) path side j c leads at
 
 -- the largest count
 biggest : {E S : Type 0} → List (Cell E S) → ℕ
@@ -43,7 +38,7 @@ module _ {E A S : Type 0} (k : Meaning E A S) (a : List (Cell E S)) (p : Pool) (
 
   refs_in : (i : ℕ) (o : Option (Cell E S)) → slice_get a i ≡ o → 0 < referred o → i < length a
   refs_in i None e h = absurd (omega arith)
-  refs_in i (Some c) e h = some_in a i c e
+  refs_in i (Some c) e h = slice_get_within a i c e
 
   live_refs : (i : ℕ) (o : Option (Cell E S)) → slice_get a i ≡ o → i < length a → linked o → 0 < referred o
   live_refs i None e h live = absurd (omega (arith, none_past a i e))
@@ -54,7 +49,7 @@ module _ {E A S : Type 0} (k : Meaning E A S) (a : List (Cell E S)) (p : Pool) (
     root = r.root;
     among = r.among;
     path = r.path ++ (up.side ∷ []);
-    leads = follow_last a r.root r.path up.side up.place up.cell r.leads up.at ∙ up.is;
+    leads = follow_more a r.root r.path up.side ∙ ap (λ j. child up.side j (slice_get a j)) r.leads ∙ ap (child up.side up.place) up.at ∙ up.is;
   }
 
   -- upwards counts grow, so that a root is found at last

@@ -1,5 +1,6 @@
 -- A free cell becomes one over two trees.
 use Rattle.std.proofs.Common.{◌≡◌, ℕ, zero, suc, ◌+◌, ◌-◌, ◌^◌, ◌<◌, ◌≤◌, false, List, [], ◌∷◌, length, set, Some, sym, refl, ap, ◌∙◌, subst, inl, inr, ⊎_elim, arith, length-set}
+use Rattle.std.proofs.lemmas.Option.{slice_get_within}
 use Rattle.std.specs.List.{slice_get, AllByRecursion}
 use Rattle.std.proofs.lemmas.Bool.{cases_eq}
 use Rattle.faults.specs.Limits.{limit}
@@ -12,7 +13,7 @@ use Rattle.cells.specs.Cells.{cell_count, referred, refs_at, tree, Live, meant, 
 use Rattle.cells.specs.Reach.{hit, Remains, Takes}
 use Rattle.cells.specs.References.{Counted, Chain, Arena}
 use Rattle.cells.specs.Moves.{Fits, Yields}
-use Rattle.cells.proofs.Lists.{some_in, nth_set_same, nth_set_other}
+use Rattle.cells.proofs.Lists.{nth_set_same, nth_set_other}
 use Rattle.cells.proofs.Trees.{Known, known}
 use Rattle.cells.proofs.Staying.{count_stays, remains_stays}
 use Rattle.cells.proofs.Names.{hit_same, hit_other, links_live, links_free, links_set, used_set}
@@ -36,7 +37,7 @@ pub first : {E A S : Type 0} (k : Meaning E A S) (a : List (Cell E S)) (p : Pool
 first k a p rs arena some = first_at p.free a p refl some arena.chain
 
 pub first_inside : {E A S : Type 0} {k : Meaning E A S} {a : List (Cell E S)} {p : Pool} {rs : List ℕ} → Arena k a p rs → 0 < p.free → p.head < length a
-first_inside {k} {a} {p} {rs} arena some = let f = first k a p rs arena some in some_in a p.head f.cell f.at
+first_inside {k} {a} {p} {rs} arena some = let f = first k a p rs arena some in slice_get_within a p.head f.cell f.at
 
 -- the links of the new cell were roots
 counted_made : {E S : Type 0} (a : List (Cell E S)) (i : ℕ) (f d : Cell E S) (rs : List ℕ) → slice_get a i ≡ Some f → f.refs ≡ 0 → d.refs ≡ 1
@@ -48,7 +49,7 @@ counted_made a i f d rs at free one counts j within =
     let o = counts j (simp length-set at within) in
     ⊎_elim
     (λ q. let h = ap (λ x. hit x j) (sym q) ∙ hit_same j in
-    let now = ap (refs_at (set a i d)) q ∙ ap referred (nth_set_same a i d (some_in a i f at)) in
+    let now = ap (refs_at (set a i d)) q ∙ ap referred (nth_set_same a i d (slice_get_within a i f at)) in
     let was = ap (refs_at a) q ∙ ap referred at in
     omega arith)
     (λ ne. let h = hit_other i j ne in let same = ap referred (nth_set_other a i j d ne) in omega arith)

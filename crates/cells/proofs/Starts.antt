@@ -1,13 +1,13 @@
 -- Cells that are all free, each naming the next.
 use Rattle.std.proofs.Common.{◌≡◌, ℕ, zero, suc, ◌+◌, ◌<◌, ◌≤◌, List, [], ◌∷◌, length, set, Some, None, Option, sym, refl, ◌∙◌, subst, ⊎_elim, arith}
 use Rattle.std.specs.List.{slice_get}
-use Rattle.std.proofs.lemmas.Option.{slice_get_past}
+use Rattle.std.proofs.lemmas.Option.{slice_get_past, slice_get_within}
 use Rattle.std.proofs.lemmas.Bool.{cases_eq}
 use Rattle.kinds.specs.Kinds.{Meaning}
 use Rattle.cells.specs.declared.cell.Cell.{Cell}
 use Rattle.cells.specs.Cells.{referred}
 use Rattle.cells.specs.References.{links, used, Chain, Arena}
-use Rattle.cells.proofs.Lists.{some_in, nth_set_same, nth_set_other}
+use Rattle.cells.proofs.Lists.{nth_set_same, nth_set_other}
 use Rattle.cells.proofs.Names.{links_free}
 
 -- the cell j is free and names the next
@@ -39,7 +39,7 @@ used_none (c ∷ a) none = omega (arith, none 0 c refl, used_none a (λ j d e. n
 module _ {E A S : Type 0} (k : Meaning E A S) (a : List (Cell E S)) (free : FreeTo a (length a)) where
   all_free : (j : ℕ) (c : Cell E S) → slice_get a j ≡ Some c → c.refs ≡ 0
   all_free j c e =
-      let f = free j (some_in a j c e) in
+      let f = free j (slice_get_within a j c e) in
       let s : Some f.cell ≡ Some c = sym f.at ∙ e in
       let r : f.cell.refs ≡ c.refs = cc in
       sym r ∙ f.none

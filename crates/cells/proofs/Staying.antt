@@ -36,7 +36,7 @@ alike_trans (Some c) (Some x) (Some y) h g = record {
   summary = h.summary ∙ g.summary;
 }
 
-alike_child : {E S : Type 0} (side : Bool) (i : ℕ) (o p : Option (Cell E S)) → Alike o p → child side i o ≡ child side i p
+pub alike_child : {E S : Type 0} (side : Bool) (i : ℕ) (o p : Option (Cell E S)) → Alike o p → child side i o ≡ child side i p
 alike_child side i None None h = refl
 alike_child side i None (Some d) h = absurd h
 alike_child side i (Some c) None h = absurd h
@@ -85,6 +85,11 @@ tree_to_lem (suc f) a b r stays = step (slice_get a r) (slice_get b r) refl (sta
         let r' = ap (λ o. tree_to f a (child true r o)) (sym is) ∙ below true ∙ ap (λ o. tree_to f b (child true r o)) is in
         let x = h.element in let y = h.left in let z = h.right in
         cc
+
+-- one step more at the end of a path
+pub follow_more : {E S : Type 0} (a : List (Cell E S)) (r : ℕ) (path : List Bool) (side : Bool) → follow a r (path ++ (side ∷ [])) ≡ child side (follow a r path) (slice_get a (follow a r path))
+follow_more a r [] side = refl
+follow_more a r (s ∷ path) side = follow_more a (child s r (slice_get a r)) path side
 
 -- the tree under a root that stays is the same
 pub tree_stays : {E S : Type 0} (a b : List (Cell E S)) (r : ℕ) → Stays a b r → tree a r ≡ tree b r

@@ -1,7 +1,8 @@
 -- The summary of a tree, joined from those of its parts.
-use Rattle.std.proofs.Common.{◌≡◌, ℕ, ◌+◌, ◌≤◌, List, [], ◌∷◌, ◌++◌, length, Some, None, Option, sym, refl, ap, ◌∙◌, subst, append_assoc, arith, length-append}
-use Rattle.std.specs.List.{slice_get, flat_map, AllByRecursion}
+use Rattle.std.proofs.Common.{◌≡◌, ℕ, ◌+◌, ◌≤◌, List, ◌∷◌, ◌++◌, length, Some, None, Option, sym, refl, ap, ◌∙◌, subst, arith, length-append}
+use Rattle.std.specs.List.{slice_get, AllByRecursion}
 use Rattle.std.proofs.ByRecursion.{All-append}
+use Rattle.std.proofs.lemmas.Grind.{flat_map-append}
 use Rattle.faults.specs.Limits.{limit}
 use Rattle.kinds.specs.Kinds.{Meaning, Laws, Lawful, IsAtom, Joinable, total}
 use Rattle.kinds.proofs.Totals.{atoms_atomic, joinable, total_append}
@@ -26,10 +27,6 @@ module _ {E A S : Type 0} (k : Meaning E A S) (cells : List (Cell E S)) (sound :
   pub told : (i : ℕ) → Live cells i → Told k cells i
   told i live = told_at i (slice_get cells i) refl live
 
-joined_append : {X Y : Type 0} (f : X → List Y) (xs ys : List X) → flat_map f (xs ++ ys) ≡ flat_map f xs ++ flat_map f ys
-joined_append f [] ys = refl
-joined_append f (x ∷ xs) ys = ap (λ l. f x ++ l) (joined_append f xs ys) ∙ sym (append_assoc (f x) (flat_map f xs) (flat_map f ys))
-
 -- an element e between the trees l and r
 module _ {E A S : Type 0} (k : Meaning E A S) (laws : Laws k) (l : Tree E) (e : E) (r : Tree E)
     (al : AllByRecursion (IsAtom k) (meant k l)) (lawful : Lawful k e) (ar : AllByRecursion (IsAtom k) (meant k r)) (short : span (shape k) (node l e r) ≤ limit) where
@@ -49,7 +46,7 @@ module _ {E A S : Type 0} (k : Meaning E A S) (laws : Laws k) (l : Tree E) (e : 
   behind_total = total_append k laws (k.atoms e) (meant k r) ae ar (omega (arith, few))
 
   meant_node : meant k (node l e r) ≡ meant k l ++ (k.atoms e ++ meant k r)
-  meant_node = joined_append k.atoms (elements l) (e ∷ elements r)
+  meant_node = flat_map-append k.atoms (elements l) (e ∷ elements r)
 
   pub joins_behind : Joinable k (total k (k.atoms e)) (total k (meant k r))
   joins_behind = joinable k (k.atoms e) (meant k r) ae ar (omega (arith, few))

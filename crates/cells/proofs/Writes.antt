@@ -1,5 +1,6 @@
 -- One cell is written: a free one is made, the references of one in use change, or one that nothing names is freed.
 use Rattle.std.proofs.Common.{◌≡◌, ℕ, zero, suc, ◌+◌, ◌<◌, ◌≤◌, Bool, true, false, ◌≢◌, List, [], ◌∷◌, length, set, Some, None, Option, sym, refl, ap, ◌∙◌, subst, ⊎_elim, arith}
+use Rattle.std.proofs.lemmas.Option.{slice_get_within}
 use Rattle.std.specs.List.{slice_get, AllByRecursion}
 use Rattle.std.proofs.lemmas.Bool.{cases_eq}
 use Rattle.faults.specs.Limits.{limit}
@@ -9,7 +10,7 @@ use Rattle.cells.specs.declared.cell.Cell.{Cell}
 use Rattle.cells.specs.Cells.{counted, cell_count, around, tree_to, tree, linked, Live, meant, Good, Sound}
 use Rattle.cells.specs.Reach.{child, follow, SameCell, Alike, Stays, Remains}
 use Rattle.cells.specs.References.{links, Chain}
-use Rattle.cells.proofs.Lists.{some_in, none_some, nth_set_same, nth_set_other}
+use Rattle.cells.proofs.Lists.{none_some, nth_set_same, nth_set_other}
 use Rattle.cells.proofs.Trees.{deep_enough}
 use Rattle.cells.proofs.Staying.{same_refl, alike_refl, tree_to_lem, tree_stays, count_stays, child_stays, reached_live, remains_stays}
 use Rattle.cells.proofs.Names.{child_named}
@@ -39,7 +40,7 @@ module _ {E A S : Type 0} (k : Meaning E A S) (a : List (Cell E S)) (i : ℕ) (c
   b = set a i d
 
   pub here : slice_get b i ≡ Some d
-  here = nth_set_same a i d (some_in a i c at)
+  here = nth_set_same a i d (slice_get_within a i c at)
 
   elsewhere : (j : ℕ) → j ≢ i → slice_get b j ≡ slice_get a j
   elsewhere j ne = nth_set_other a i j d ne

@@ -8,7 +8,7 @@ ghost use Rattle.cells.specs.Moves.{Fits, Makes};
 use crate::cell::Cell;
 use crate::item::Item;
 use crate::pool::Pool;
-use crate::read::{cell_at, count_at, summary_at};
+use crate::read::{count_at, summary_at};
 use kinds::Kind;
 
 // Takes a free cell and puts the item between the trees of two owned roots; the cell owns them from then on, and its
@@ -32,8 +32,9 @@ pub fn make<K: Kind>(
     let count = count_at(cells, left) + 1 + count_at(cells, right);
     let behind = kind.join(item.own, summary_at(kind, cells, right));
     let summary = kind.join(summary_at(kind, cells, left), behind);
-    pool.head = cell_at(cells, i).left;
-    cells[i as usize] = Cell {
+    let taken = &mut cells[i as usize];
+    pool.head = taken.left;
+    *taken = Cell {
         element: item.element,
         own: item.own,
         left,

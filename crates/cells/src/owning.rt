@@ -10,8 +10,8 @@ use crate::pool::Pool;
 use crate::read::cell_at;
 use kinds::Kind;
 
-// Owns what `i` names once more. The pool is not touched, whichever it is. The cell is written by index: of what is written
-// through `get_mut` no contract tells.
+// Owns what `i` names once more. The pool is not touched, whichever it is. The cell is written by index: no contract tells
+// what is written through `get_mut`.
 pub fn retain<K: Kind>(kind: &K, cells: &mut [Cell<K::Element, K::Summary>], i: u32)
     requires holds { (p : Pool) × Holds (K.meaning kind.now) cells.old p [] (2 ^ 30) }
     requires live { Live cells.old i }
@@ -23,8 +23,8 @@ pub fn retain<K: Kind>(kind: &K, cells: &mut [Cell<K::Element, K::Summary>], i: 
     }
 }
 
-// Gives up one reference to what `i` names. Where it was the last one to a cell, the cell is free and handed out as it was:
-// its children are owed in its place.
+// Gives up one reference to what `i` names. Where it was the last to a cell, the cell is free and handed out as it was: its
+// children are owed in its place.
 pub fn give_up<K: Kind>(
     kind: &K,
     cells: &mut [Cell<K::Element, K::Summary>],

@@ -11,16 +11,11 @@ use Rattle.cells.specs.Cells.{seen}
 use Rattle.cells.specs.Reach.{child, follow, Stays, Reached}
 use Rattle.cells.specs.References.{Arena, Holds}
 use Rattle.cells.specs.Moves.{Moves, Makes}
-use Rattle.cells.proofs.Staying.{stays_refl, stays_trans, follow_same}
+use Rattle.cells.proofs.Staying.{follow_more, stays_trans, follow_same}
 use Rattle.cells.proofs.Names.{hit_same}
-use Rattle.cells.proofs.Moving.{moves_none, moves_then, seen_stays}
+use Rattle.cells.proofs.Moving.{moves_then, seen_stays}
 use Rattle.links.specs.Sitting.{Sits}
 use Rattle.links.specs.Climbing.{raised, descent, climbed, Tabled, Climbs, Above, Raises}
-
--- one step more at the end of a path
-follow_more : {E S : Type 0} (a : List (Cell E S)) (r : ℕ) (path : List Bool) (side : Bool) → follow a r (path ++ (side ∷ [])) ≡ child side (follow a r path) (slice_get a (follow a r path))
-follow_more a r [] side = refl
-follow_more a r (s ∷ path) side = follow_more a (child s r (slice_get a r)) path side
 
 -- what is reached from a root that stays, stays
 pub stays_below : {E S : Type 0} (a b : List (Cell E S)) (r : ℕ) (path : List Bool) → Stays a b r → Stays a b (follow a r path)
@@ -60,11 +55,6 @@ pub record Climbing {E A S : Type 0} (k : Meaning E A S) (flip : Bool) (a : List
   pub stays : Stays a b top
   pub same : climbed flip a top n (seen flip b x) ≡ climbed flip a top (length path) (seen flip a low)
   pub sits : Climbs k flip a top n (seen flip b x)
-
-pub climbing_start : {E A S : Type 0} (k : Meaning E A S) (flip : Bool) (a : List (Cell E S)) (p : Pool) (low top : ℕ) (path : List ℕ)
-    → Climbs k flip a top (length path) (seen flip a low) → Climbing k flip a p low top path a p low 0
-climbing_start k flip a p low top path sits =
-    record { n = length path; left = omega arith; each = moves_none k a p (low ∷ top ∷ []); stays = stays_refl a top; same = refl; sits = sits }
 
 -- the turn of the loop at the cell i
 pub record Turn {E A S : Type 0} (k : Meaning E A S) (flip : Bool) (a : List (Cell E S)) (p : Pool) (low top : ℕ) (path : List ℕ) (b : List (Cell E S)) (q : Pool) (x passed i : ℕ) : Type 0 where

@@ -80,11 +80,11 @@ module _ {E A S : Type 0} {k : Meaning E A S} (flip : Bool) {a : List (Cell E S)
     light = omega (arith, heavy)
 
     pub foot_live : Live a f
-    foot_live = subst (Live a) (sym sunk.foot_is) (descent_live k flip a holds.arena.sound y y_live L e x_balanced linkable light path f sunk n)
+    foot_live = subst (Live a) (sym sunk.foot_is) (descent_live sunk holds.arena.sound y_live e x_balanced linkable light n)
 
     sits_a : Sits k (node L e (seen flip a f))
-    sits_a = subst (λ t. Sits k (node L e t)) (sym (foot_tree k flip a holds.arena.sound y y_live L e x_balanced linkable light path f sunk))
-        (foot_sits k flip a holds.arena.sound y y_live L e x_balanced linkable light path f sunk)
+    sits_a = subst (λ t. Sits k (node L e t)) (sym (foot_tree sunk holds.arena.sound y_live e x_balanced linkable light))
+        (foot_sits sunk holds.arena.sound y_live e x_balanced linkable light)
 
     module _ {b : List (Cell E S)} (one : Retains k a f b) where
       move_b : Moves k a p (x ∷ y ∷ []) b p (x ∷ y ∷ f ∷ []) (0 + 0)
@@ -143,10 +143,10 @@ module _ {E A S : Type 0} {k : Meaning E A S} (flip : Bool) {a : List (Cell E S)
             ∙ ap (λ i. node L e (seen flip a i)) sunk.foot_is ∙ ap (node L e) (sym (level_same k flip a c y y_stays n))
 
         pub climbs_c : Climbs k flip c y n (seen flip c low)
-        climbs_c = subst (Climbs k flip c y n) (sym low_c) (foot_climbs k flip c arena_c.sound y y_live_c L e x_balanced linkable_c light_c path f sunk_c)
+        climbs_c = subst (Climbs k flip c y n) (sym low_c) (foot_climbs sunk_c arena_c.sound y_live_c e x_balanced linkable_c light_c)
 
         climbed_c : climbed flip c y n (seen flip c low) ≡ hung L e R
-        climbed_c = ap (climbed flip c y n) low_c ∙ foot_climbed k flip c arena_c.sound y y_live_c L e x_balanced linkable_c light_c path f sunk_c ∙ ap (hung L e) y_c
+        climbed_c = ap (climbed flip c y n) low_c ∙ foot_climbed sunk_c arena_c.sound y_live_c e x_balanced linkable_c light_c ∙ ap (hung L e) y_c
 
         pub some_c : 3 * length (spine L R) + 1 ≤ p.free → 3 * n ≤ q.free
         some_c some = omega (arith, sunk.spine_is, (move_c holds.rest holds.arena).free)

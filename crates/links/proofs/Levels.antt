@@ -1,5 +1,6 @@
 -- The levels that a light tree L passes on the near side of a heavy one, and what is made of them on the way up.
-use Rattle.std.proofs.Common.{◌≡◌, ℕ, zero, suc, ◌*◌, ◌<◌, ◌≤◌, Bool, true, false, ltb, List, [], length, get_or, Some, None, Option, sym, refl, ap, ◌∙◌, subst, arith, le-ltb, lt-ltb}
+use Rattle.std.proofs.Common.{◌≡◌, ℕ, zero, suc, ◌*◌, ◌<◌, ◌≤◌, Bool, ltb, List, [], length, get_or, Some, None, Option, sym, refl, ap, ◌∙◌, subst, arith, le-ltb, lt-ltb}
+use Rattle.std.proofs.lemmas.Option.{slice_get_within}
 use Rattle.std.specs.List.{slice_get}
 use Rattle.kinds.specs.Kinds.{Meaning}
 use Rattle.balance.specs.Trees.{Tree, leaf, node, count, weight, elements, Balanced, Δ}
@@ -13,8 +14,8 @@ use Rattle.balance.proofs.Links.{hung_elements, hung_balanced}
 use Rattle.cells.specs.declared.cell.Cell.{Cell}
 use Rattle.cells.specs.Cells.{shape, seen, near, far, linked, Live, Sound}
 use Rattle.cells.specs.Reach.{child, Alike, Stays}
-use Rattle.cells.proofs.Lists.{some_in, none_past}
-use Rattle.cells.proofs.Staying.{reached_live}
+use Rattle.cells.proofs.Lists.{none_past}
+use Rattle.cells.proofs.Staying.{alike_child, reached_live}
 use Rattle.cells.proofs.Moving.{seen_stays}
 use Rattle.links.specs.Sitting.{Sits, Linkable}
 use Rattle.links.specs.Climbing.{raised, descent, climbed, Climbs, Sunk}
@@ -45,14 +46,7 @@ some_at a i (Some x) e h = (x, e)
 alike_inside : {E S : Type 0} (a b : List (Cell E S)) (i : ℕ) (o p : Option (Cell E S)) → slice_get a i ≡ o → slice_get b i ≡ p → Alike o p → i < length a → i < length b
 alike_inside a b i None p ea eb alike h = absurd (omega (arith, none_past a i ea))
 alike_inside a b i (Some c) None ea eb alike h = absurd alike
-alike_inside a b i (Some c) (Some d) ea eb alike h = some_in b i d eb
-
-alike_child : {E S : Type 0} (side : Bool) (i : ℕ) (o p : Option (Cell E S)) → Alike o p → child side i o ≡ child side i p
-alike_child side i None None h = refl
-alike_child side i None (Some d) h = absurd h
-alike_child side i (Some c) None h = absurd h
-alike_child false i (Some c) (Some d) h = h.left
-alike_child true i (Some c) (Some d) h = h.right
+alike_inside a b i (Some c) (Some d) ea eb alike h = slice_get_within b i d eb
 
 module _ {E A S : Type 0} (k : Meaning E A S) (flip : Bool) (a b : List (Cell E S)) (top : ℕ) (stays : Stays a b top) where
   pub descent_same : (n : ℕ) → descent flip b top n ≡ descent flip a top n
@@ -86,9 +80,8 @@ module _ {E A S : Type 0} (k : Meaning E A S) (flip : Bool) (a b : List (Cell E 
 
 -- ---- the levels
 
-module _ {E A S : Type 0} (k : Meaning E A S) (flip : Bool) (a : List (Cell E S)) (sound : Sound k a) (top : ℕ) (top_live : Live a top)
-    (L : Tree E) (e : E) (balanced : Balanced L) (linkable : Linkable k L e (seen flip a top)) (light : weight L ≤ Δ * weight (seen flip a top))
-    (path : List ℕ) (foot : ℕ) (sunk : Sunk k flip a L top path foot) where
+module _ {E A S : Type 0} {k : Meaning E A S} {flip : Bool} {a : List (Cell E S)} {L : Tree E} {top : ℕ} {path : List ℕ} {foot : ℕ} (sunk : Sunk k flip a L top path foot)
+    (sound : Sound k a) (top_live : Live a top) (e : E) (balanced : Balanced L) (linkable : Linkable k L e (seen flip a top)) (light : weight L ≤ Δ * weight (seen flip a top)) where
   abbrev t : ℕ → Tree E
   t j = seen flip a (descent flip a top j)
 

@@ -1,5 +1,6 @@
 -- A rotation by which a grandchild comes to stand on top.
 use Rattle.std.proofs.Common.{◌≡◌, ℕ, ◌+◌, ◌^◌, ◌<◌, ◌≤◌, Bool, List, [], ◌∷◌, length, Some, None, Option, sym, refl, ap, ◌∙◌, subst, arith}
+use Rattle.std.proofs.lemmas.Option.{slice_get_within}
 use Rattle.std.specs.List.{slice_get}
 use Rattle.kinds.specs.Kinds.{Meaning}
 use Rattle.balance.specs.Trees.{Tree, node, count, weight}
@@ -12,7 +13,6 @@ use Rattle.cells.specs.Cells.{counted, cell_count, seen, Live, Sound}
 use Rattle.cells.specs.Reach.{Among}
 use Rattle.cells.specs.References.{Arena, Holds}
 use Rattle.cells.specs.Moves.{Moves, Fits, Makes, Releases}
-use Rattle.cells.proofs.Lists.{some_in}
 use Rattle.cells.proofs.Names.{hit_same}
 use Rattle.cells.proofs.Arenas.{rooted, rerooted}
 use Rattle.cells.proofs.Moving.{moves_none, moves_then, seen_stays}
@@ -24,7 +24,7 @@ use Rattle.links.proofs.Rotations.{sits_left, sits_right, sits_fits}
 
 inside_at : {X : Type 0} (n : ℕ) (count_of : Option X → ℕ) → count_of None ≡ 0 → (a : List X) (i : ℕ) (o : Option X) → slice_get a i ≡ o → 0 < count_of o → i < length a
 inside_at n count_of none a i None e h = absurd (omega arith)
-inside_at n count_of none a i (Some c) e h = some_in a i c e
+inside_at n count_of none a i (Some c) e h = slice_get_within a i c e
 
 -- what is not a leaf stands in a cell
 pub seen_inside : {E A S : Type 0} (k : Meaning E A S) (flip : Bool) (a : List (Cell E S)) → Sound k a → (i : ℕ) → Live a i → 1 < weight (seen flip a i) → i < length a

@@ -1,5 +1,5 @@
-// Cells as they are, or seen in a mirror: only these functions look at `flip`. It stays a bool, for near, far and seen of the
-// specs are over one: an enum would be translated in every clause.
+// Cells as they are, or seen in a mirror: only these functions look at `flip`. It is a bool because near, far and seen of
+// the specs are over one: an enum would be translated in every clause.
 ghost use Rattle.std.specs.Prelude.{◌≡◌, ◌+◌, ◌<◌, [], ◌∷◌};
 ghost use Rattle.balance.specs.Trees.{node};
 ghost use Rattle.cells.specs.Cells.{seen, near, far};
@@ -23,8 +23,8 @@ pub fn far_of<E: Copy, S: Copy>(flip: bool, c: Cell<E, S>) -> u32
     if flip { c.left } else { c.right }
 }
 
-// A new cell, seen with the tree of `left` on the left. A helper that orders any call's roots by `flip` would state that
-// call's contract once more, so each such call has its own.
+// A new cell, seen with the tree of `left` on the left. A function that orders the roots of any call by `flip` would state
+// that call's contract once more, so each such call has its own.
 pub fn make_facing<K: Kind>(
     kind: &K,
     cells: &mut [Cell<K::Element, K::Summary>],

@@ -10,7 +10,8 @@ use balance::outweighs;
 use cells::{Cell, Path, cell_at, count_at};
 use kinds::Kind;
 
-// From the tree of `right` down while it outweighs that of `left`, to the cell that does not. The path takes what is passed.
+// Down from the tree of `right` while it outweighs that of `left`. The path takes the cells that are passed; the answer is
+// the first that can stand beside.
 pub fn sink<K: Kind>(
     kind: &K,
     cells: &[Cell<K::Element, K::Summary>],

@@ -10,8 +10,8 @@ use Rattle.balance.proofs.Costs.{link_cost_mirror}
 use Rattle.cells.specs.declared.cell.Cell.{Cell}
 use Rattle.cells.specs.declared.pool.Pool.{Pool}
 use Rattle.cells.specs.Cells.{shape, tree, seen}
-use Rattle.cells.specs.References.{Arena, Holds}
-use Rattle.cells.specs.Moves.{Moved, Yields}
+use Rattle.cells.specs.References.{Holds}
+use Rattle.cells.specs.Moves.{Moved, Makes}
 use Rattle.links.specs.Sitting.{Linkable}
 use Rattle.links.proofs.Sides.{arena_turned}
 use Rattle.splits.specs.Splitting.{Grows}
@@ -29,7 +29,7 @@ module _ {E A S : Type 0} {k : Meaning E A S} {a : List (Cell E S)} {p : Pool} {
     pub cost_turned : link_cost (seen flip a left) (seen flip a right) ≡ link_cost (tree a right) (tree a left)
     cost_turned = ap (λ f. link_cost (seen f a left) (seen f a right)) is ∙ link_cost_mirror (tree a right) (tree a left)
 
-    pub grows_turned : (e : E) (b : List (Cell E S)) (q : Pool) (r : ℕ) → ((rs : List ℕ) → Arena k a p (right ∷ left ∷ rs) → Yields k false a p rs b q r (link (tree a right) e (tree a left)) (link_cost (tree a right) (tree a left)))
+    pub grows_turned : (e : E) (b : List (Cell E S)) (q : Pool) (r : ℕ) → Makes k false a p (right ∷ left ∷ []) b q r (link (tree a right) e (tree a left)) (link_cost (tree a right) (tree a left))
         → Grows k flip a p (left ∷ right ∷ []) b q r (link (seen flip a left) e (seen flip a right)) (link_cost (seen flip a left) (seen flip a right))
     grows_turned e b q r yields = record {
       each = λ rs arena. subst (Moved k a p rs b q (r ∷ [])) (sym cost_turned) (yields rs (arena_turned k a p left right rs arena)).moved;
@@ -41,7 +41,7 @@ module _ {E A S : Type 0} {k : Meaning E A S} {a : List (Cell E S)} {p : Pool} {
     cost_plain : link_cost (seen flip a left) (seen flip a right) ≡ link_cost (tree a left) (tree a right)
     cost_plain = ap (λ f. link_cost (seen f a left) (seen f a right)) is
 
-    pub grows_plain : (e : E) (b : List (Cell E S)) (q : Pool) (r : ℕ) → ((rs : List ℕ) → Arena k a p (left ∷ right ∷ rs) → Yields k false a p rs b q r (link (tree a left) e (tree a right)) (link_cost (tree a left) (tree a right)))
+    pub grows_plain : (e : E) (b : List (Cell E S)) (q : Pool) (r : ℕ) → Makes k false a p (left ∷ right ∷ []) b q r (link (tree a left) e (tree a right)) (link_cost (tree a left) (tree a right))
         → Grows k flip a p (left ∷ right ∷ []) b q r (link (seen flip a left) e (seen flip a right)) (link_cost (seen flip a left) (seen flip a right))
     grows_plain e b q r yields = record {
       each = λ rs arena. subst (Moved k a p rs b q (r ∷ [])) (sym cost_plain) (yields rs arena).moved;

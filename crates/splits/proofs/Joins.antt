@@ -13,8 +13,7 @@ use Rattle.balance.proofs.Ways.{span_extents}
 use Rattle.cells.specs.declared.cell.Cell.{Cell}
 use Rattle.cells.specs.declared.pool.Pool.{Pool}
 use Rattle.cells.specs.Cells.{shape, tree}
-use Rattle.cells.specs.References.{Arena}
-use Rattle.cells.specs.Moves.{Yields}
+use Rattle.cells.specs.Moves.{Makes}
 use Rattle.cells.proofs.Moving.{moves_none}
 use Rattle.links.specs.Sitting.{Linkable}
 use Rattle.splits.specs.Owning.{Owns}
@@ -29,7 +28,7 @@ module _ {E A S : Type 0} {k : Meaning E A S} {a : List (Cell E S)} {p : Pool} {
     pub join_linkable : count (tree a left) + count (tree a right) < most → span (shape k) (tree a left) + extents (shape k) (f ∷ elements (tree a right)) ≤ limit → Linkable k (tree a left) e (tree a right)
     join_linkable few short = record { few = few; short = omega (arith, short, span_extents (shape k) (tree a right), ap (shape k).extent e_is) }
 
-    pub joined_some : {b : List (Cell E S)} {q : Pool} {r : ℕ} → ((rs : List ℕ) → Arena k a p (left ∷ right ∷ rs) → Yields k false a p rs b q r (link (tree a left) e (tree a right)) (link_cost (tree a left) (tree a right)))
+    pub joined_some : {b : List (Cell E S)} {q : Pool} {r : ℕ} → Makes k false a p (left ∷ right ∷ []) b q r (link (tree a left) e (tree a right)) (link_cost (tree a left) (tree a right))
         → Grows k false a p (left ∷ right ∷ []) b q r (joined (tree a left) (more f (tree a right))) (joined_cost (tree a left) (more f (tree a right)))
     unfolding joined joined_cost
     joined_some yields = record {

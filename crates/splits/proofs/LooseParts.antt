@@ -16,8 +16,8 @@ use Rattle.cells.specs.declared.cell.Cell.{Cell}
 use Rattle.cells.specs.declared.pool.Pool.{Pool}
 use Rattle.cells.specs.Cells.{shape, cell_count, tree, Live}
 use Rattle.cells.specs.Reach.{Among, Stays}
-use Rattle.cells.specs.References.{Arena, Holds}
-use Rattle.cells.specs.Moves.{Moves, Yields, Releases}
+use Rattle.cells.specs.References.{Arena, Owned, Holds}
+use Rattle.cells.specs.Moves.{Moves, Makes, Releases}
 use Rattle.cells.proofs.Names.{hit_same}
 use Rattle.cells.proofs.Staying.{occurs_append}
 use Rattle.cells.proofs.Arenas.{rooted}
@@ -167,7 +167,7 @@ module _ {E A S : Type 0} {k : Meaning E A S} {a : List (Cell E S)} {p : Pool} {
       drop_arena : Arena k b q (l.root ∷ (r.before ∷ left))
       drop_arena = (to_b h.owns.rest h.owns.arena).arena
 
-      pub drop_owned : (rs : List ℕ) × Arena k b q (l.root ∷ rs)
+      pub drop_owned : Owned k b q (l.root ∷ [])
       drop_owned = (r.before ∷ left, drop_arena)
 
       root_is : tree b l.root ≡ t
@@ -214,7 +214,7 @@ module _ {E A S : Type 0} {k : Meaning E A S} {a : List (Cell E S)} {p : Pool} {
           }
 
           module _ {z : List (Cell E S)} {w : Pool} {x : ℕ}
-              (linked : (rs : List ℕ) → Arena k c o (none ∷ r.before ∷ rs) → Yields k false c o rs z w x (link (tree c none) f (tree c r.before)) (link_cost (tree c none) (tree c r.before))) where
+              (linked : Makes k false c o (none ∷ r.before ∷ []) z w x (link (tree c none) f (tree c r.before)) (link_cost (tree c none) (tree c r.before))) where
             link_moves : Moves k c o (r.before ∷ []) z w (x ∷ []) (link_cost (tree c none) (tree c r.before))
             link_moves rs arena = (linked rs (with_none rs arena)).moved
 

@@ -14,7 +14,7 @@ use Rattle.cells.specs.declared.cell.Cell.{Cell}
 use Rattle.cells.specs.declared.pool.Pool.{Pool}
 use Rattle.cells.specs.Cells.{shape, cell_count, tree, Live}
 use Rattle.cells.specs.Reach.{Among, Stays}
-use Rattle.cells.specs.References.{Arena}
+use Rattle.cells.specs.References.{Arena, Owned}
 use Rattle.cells.specs.Moves.{Moved, Moves, Releases}
 use Rattle.cells.proofs.Names.{hit_same}
 use Rattle.cells.proofs.Staying.{occurs_append}
@@ -73,7 +73,7 @@ module _ {E A S : Type 0} {k : Meaning E A S} {a : List (Cell E S)} {p : Pool} {
     split_arena : Arena k b q (r.before ∷ (xs ++ (left ∷ owns.rest)))
     split_arena = (split.each (left ∷ owns.rest) owns.arena).arena
 
-    pub split_owned : (rs : List ℕ) × Arena k b q (r.before ∷ rs)
+    pub split_owned : Owned k b q (r.before ∷ [])
     split_owned = (xs ++ (left ∷ owns.rest), split_arena)
 
     pub split_few : cell_count b r.before ≤ most

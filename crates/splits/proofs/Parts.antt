@@ -43,11 +43,11 @@ use Rattle.splits.proofs.BothSides.{table_on, climbs_on}
 -- ---- on trees
 
 module _ {E : Type 0} (s : Shape E) (t : Tree E) (place : ℕ) where
-  pub parted_beyond : span s t ≤ place → parted s t place ≡ record { before = t; rest = done }
+  parted_beyond : span s t ≤ place → parted s t place ≡ record { before = t; rest = done }
   unfolding parted
   parted_beyond h = test_false (ltb place (span s t)) _ _ (le-ltb place (span s t) h)
 
-  pub cost_beyond : span s t ≤ place → parted_cost s t place ≡ 0
+  cost_beyond : span s t ≤ place → parted_cost s t place ≡ 0
   unfolding parted_cost
   cost_beyond h = test_false (ltb place (span s t)) _ _ (le-ltb place (span s t) h)
 

@@ -5,7 +5,7 @@ use Rattle.std.proofs.ByRecursion.{All-weaker}
 use Rattle.std.proofs.lemmas.Bool.{lt-leb, cond-false}
 use Rattle.kinds.specs.Kinds.{Meaning, Laws, Lawful}
 use Rattle.kinds.specs.Places.{extent, extent_of, before, after, divided, put_at, taken, without}
-use Rattle.kinds.proofs.Places.{before_behind, after_behind, extent_append, extent_counts, before_lawful, after_lawful, divided_atoms}
+use Rattle.kinds.proofs.Places.{before_behind, after_behind, extent_append, extent_counts, after_lawful, divided_atoms}
 use Rattle.balance.specs.Trees.{Tree, elements}
 use Rattle.balance.specs.Lists.{extents, Solid, front, back, put_in, between}
 use Rattle.balance.specs.Lists as lists
@@ -53,14 +53,11 @@ module _ {E A S : Type 0} (k : Meaning E A S) where
     pub all_solid : (es : List E) → AllByRecursion (Lawful k) es → Solid (shape k) es
     all_solid es l = All-weaker (Lawful k) (λ e. 1 ≤ extent k e) laws.some es l
 
-    pub front_lawful : (p : ℕ) (es : List E) → AllByRecursion (Lawful k) es → AllByRecursion (Lawful k) (front (shape k) p es)
-    front_lawful p es l = subst (AllByRecursion (Lawful k)) (sym (same_before p es)) (before_lawful k laws es p l)
-
     pub back_lawful : (p : ℕ) (es : List E) → AllByRecursion (Lawful k) es → AllByRecursion (Lawful k) (back (shape k) p es)
     back_lawful p es l = subst (AllByRecursion (Lawful k)) (sym (same_after p es)) (after_lawful k laws es p l)
 
     -- both sides of a place have the extent of the whole
-    pub both_extents : (p : ℕ) (es : List E) → AllByRecursion (Lawful k) es
+    both_extents : (p : ℕ) (es : List E) → AllByRecursion (Lawful k) es
         → extents (shape k) (front (shape k) p es) + extents (shape k) (back (shape k) p es) ≡ extents (shape k) es
     both_extents p es l =
         let x = ap (extents (shape k)) (same_before p es) ∙ same_extent (before k p es) in

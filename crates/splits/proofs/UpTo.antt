@@ -18,7 +18,7 @@ use Rattle.cells.specs.declared.cell.Cell.{Cell}
 use Rattle.cells.specs.declared.pool.Pool.{Pool}
 use Rattle.cells.specs.Cells.{shape, tree}
 use Rattle.cells.specs.References.{Arena}
-use Rattle.cells.specs.Moves.{Moved, Moves, Yields}
+use Rattle.cells.specs.Moves.{Moved, Moves, Makes}
 use Rattle.cells.proofs.Arenas.{rerooted}
 use Rattle.cells.proofs.Moving.{moves_none}
 use Rattle.links.specs.Sitting.{Linkable}
@@ -39,11 +39,11 @@ module _ {E : Type 0} (s : Shape E) (e : E) (d : ℕ) where
   unfolding on_from
   on_from_none z = test_true (eqb d 0) _ _ (eq-eqb d 0 z)
 
-  pub on_from_some : (d ≡ 0 → ⊥) → on_from s e d ≡ s.part e d (s.extent e - d)
+  on_from_some : (d ≡ 0 → ⊥) → on_from s e d ≡ s.part e d (s.extent e - d)
   unfolding on_from
   on_from_some nz = test_false (eqb d 0) _ _ (ne_eqb d 0 nz)
 
-pub up_to_cost_none : {E : Type 0} (l : Tree E) (d : ℕ) → d ≡ 0 → up_to_cost l d ≡ 0
+up_to_cost_none : {E : Type 0} (l : Tree E) (d : ℕ) → d ≡ 0 → up_to_cost l d ≡ 0
 unfolding up_to_cost
 up_to_cost_none l d z = test_true (eqb d 0) _ _ (eq-eqb d 0 z)
 
@@ -88,7 +88,7 @@ module _ {E A S : Type 0} {k : Meaning E A S} {a : List (Cell E S)} {p : Pool} {
         short = omega (arith, ap (span (shape k)) up_is, link_span (shape k) L part (tree a none));
       }
 
-      pub grows_some : (b : List (Cell E S)) (q : Pool) (r : ℕ) → ((rs : List ℕ) → Arena k a p (left ∷ none ∷ rs) → Yields k false a p rs b q r (link L part (tree a none)) (link_cost L (tree a none)))
+      pub grows_some : (b : List (Cell E S)) (q : Pool) (r : ℕ) → Makes k false a p (left ∷ none ∷ []) b q r (link L part (tree a none)) (link_cost L (tree a none))
           → Grows k false a p (left ∷ []) b q r (up_to (shape k) L e d) (up_to_cost L d)
       grows_some b q r yields = record {
         each = λ rs arena. subst (Moved k a p rs b q (r ∷ [])) (sym cost_is) (yields rs (with_none rs arena)).moved;

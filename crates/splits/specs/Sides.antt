@@ -6,9 +6,8 @@ use Rattle.balance.specs.Edits.{up_to}
 use Rattle.balance.specs.Costs.{up_to_cost}
 use Rattle.cells.specs.declared.cell.Cell.{Cell}
 use Rattle.cells.specs.declared.pool.Pool.{Pool}
-use Rattle.cells.specs.Cells.{shape, tree, Live}
+use Rattle.cells.specs.Cells.{shape, tree, Live, Whole}
 use Rattle.cells.specs.References.{Arena}
-use Rattle.cells.specs.Cells.{Whole}
 use Rattle.splits.specs.Regrowing.{Climbable}
 
 -- the element of the cell c from its atom d on, then the tree under its right child, and behind it what the cells is have

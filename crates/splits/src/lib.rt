@@ -1,4 +1,4 @@
-// Taking trees over cells apart at places, and putting them together: all by links, over the tables that a walk filled.
+// Taking trees over cells apart at places, and putting them together: all by links, up the paths that a walk filled.
 // The tree that is taken apart stays as it is; what is made shares its cells.
 #![tactic(auto)]
 

@@ -57,6 +57,7 @@ pub fn part<K: Kind>(
 
 // What lies behind a place of the tree of a lent root, if anything does. What lies before the place is not made, so no
 // summary is asked for.
+// The walk begins as in `part`: a function for that would be lent both paths, and its contract be longer than those lines.
 pub fn part_behind<K: Kind>(
     kind: &K,
     cells: &mut [Cell<K::Element, K::Summary>],

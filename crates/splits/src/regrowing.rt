@@ -15,6 +15,7 @@ use kinds::Kind;
 use links::{far_of, link};
 
 // A link, seen with the tree of `left` on the left.
+// `make_facing` of links is its like: one function for both would take the call as a closure, and state its contract anew.
 pub fn link_facing<K: Kind>(
     kind: &K,
     cells: &mut [Cell<K::Element, K::Summary>],
@@ -57,7 +58,7 @@ pub fn regrow_one<K: Kind>(
 }
 
 // Up from `low` through the cells that a walk passed, the last first.
-// A loop of its own beside `climb` of links: one loop over a step would ask for the invariants of both as parameters.
+// `climb` of links is its like: one loop for both would take the step as a closure, and its invariant as a parameter.
 pub fn regrow<K: Kind>(
     kind: &K,
     cells: &mut [Cell<K::Element, K::Summary>],

@@ -14,8 +14,8 @@ use crate::split::Loose;
 use cells::{Cell, Pool, retain};
 use kinds::Kind;
 
-// What lies behind the atoms before `d` of a cell's element: the rest of it, loose, and under its root the tree of the
-// right child and all that the walk left on its right.
+// What a cell's element has from its atom `d` on, loose, and under its root what lies behind it: the tree of the right
+// child, and all that the walk left on its right.
 pub fn behind_of<K: Kind>(
     kind: &K,
     cells: &mut [Cell<K::Element, K::Summary>],

@@ -191,7 +191,7 @@ module _ {E A S : Type 0} (k : Meaning E A S) where
           ap (front (shape k) left) back_step ∙ ap (λ (n : ℕ). front (shape k) n (f ∷ es)) left_is ∙ front_past (shape k) f es rest
           ∙ ap (λ l. f ∷ front (shape k) rest l) (sym (back_begun es begun))
 
-module _ {E A S : Type 0} (k : Meaning E A S) (laws : Laws k) (cells : List (Cell E S)) (sound : Sound k cells) (cursor : Cursor) (ready : Ready k cells cursor) where
+module _ {E A S : Type 0} {k : Meaning E A S} (laws : Laws k) {cells : List (Cell E S)} (sound : Sound k cells) {cursor : Cursor} (ready : Ready k cells cursor) where
   pub ready_deep : (cursor.left ≡ 0 → ⊥) → 1 ≤ cursor.depth
   ready_deep some = step cursor.depth refl
     where
@@ -217,7 +217,7 @@ module _ {E A S : Type 0} (k : Meaning E A S) (laws : Laws k) (cells : List (Cel
     pub ready_named : here_cell < length cells
     ready_named = let top_used = nested_last cells (most + 1) below here_cell ready.spare nested_here in some_in cells here_cell top_used.cell top_used.at
 
-    module _ (c : Cell E S) (at : slice_get cells here_cell ≡ Some c) where
+    module _ {c : Cell E S} (at : slice_get cells here_cell ≡ Some c) where
       pub ready_live : 0 < c.refs
       ready_live =
           let top_used = nested_last cells (most + 1) below here_cell ready.spare nested_here in
@@ -240,7 +240,7 @@ module _ {E A S : Type 0} (k : Meaning E A S) (laws : Laws k) (cells : List (Cel
           nested_less cells (most + 1) below (cell_count cells here_cell + 1) (cell_count cells c.right + 1) (nested_pop cells (most + 1) below here_cell ready.spare nested_here)
           (omega (arith, ap counted at, (sound here_cell c at ready_live).counts))
 
-      module _ (table : List ℕ) (n : ℕ) (s : Spine cells below c.right table n) (f : E) (b : Behind k c.element cursor.offset f) where
+      module _ {table : List ℕ} {n : ℕ} (s : Spine cells below c.right table n) {f : E} (b : Behind k c.element cursor.offset f) where
         wide : extents (shape k) (waiting cells cursor) ≡ length (k.atoms c.element) + extents (shape k) (pending cells (take n table))
         wide = ap (extents (shape k)) waits ∙ ap (λ l. length (k.atoms c.element) + extents (shape k) l) (sym s.waits)
 
@@ -290,7 +290,7 @@ module _ {E A S : Type 0} (k : Meaning E A S) (laws : Laws k) (cells : List (Cel
           let used = nested_last cells (most + 1) (below deep) (here_cell deep) ready.spare (nested_here deep) in
           let c = used.cell in
           let lawful = (sound (here_cell deep) c used.at used.live).lawful in
-          let inside = ready_inside deep c used.at in
+          let inside = ready_inside deep used.at in
           let f = behind_any k laws c.element cursor.offset lawful inside in
-          ap (λ l. front (shape k) 0 (back (shape k) cursor.offset l)) (waits deep c used.at)
-          ∙ step_none k c.element f.0 cursor.offset (behind_list deep c used.at) f.1 inside
+          ap (λ l. front (shape k) 0 (back (shape k) cursor.offset l)) (waits deep used.at)
+          ∙ step_none k c.element f.0 cursor.offset (behind_list deep used.at) f.1 inside

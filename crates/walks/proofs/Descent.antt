@@ -57,7 +57,8 @@ module _ {E A S : Type 0} (k : Meaning E A S) (cells : List (Cell E S)) (sound :
     reached = omega arith;
   }
 
-  module _ (root p cell at : ℕ) (lefts rights : List ℕ) (d : Descent k cells root p cell at lefts rights) where
+module _ {E A S : Type 0} {k : Meaning E A S} {cells : List (Cell E S)} (sound : Sound k cells) where
+  module _ {root p cell at : ℕ} {lefts rights : List ℕ} (d : Descent k cells root p cell at lefts rights) where
     pub descent_named : cell < length cells
     descent_named = inside_named k cells sound cell at d.inside
 
@@ -71,9 +72,9 @@ module _ {E A S : Type 0} (k : Meaning E A S) (cells : List (Cell E S)) (sound :
 
     -- so they are short
     pub descent_short : Live cells root → cell_count cells root ≤ most → length lefts + length rights ≤ deepest
-    descent_short live few = omega (arith, passed_depth, (leads_by root p _ live few refl).short)
+    descent_short live few = omega (arith, passed_depth, (leads_by k cells sound root p _ live few refl).short)
 
-    module _ (c : Cell E S) (e : slice_get cells cell ≡ Some c) where
+    module _ {c : Cell E S} (e : slice_get cells cell ≡ Some c) where
       abbrev L : Tree E
       L = tree cells c.left
 
@@ -81,10 +82,10 @@ module _ {E A S : Type 0} (k : Meaning E A S) (cells : List (Cell E S)) (sound :
       R = tree cells c.right
 
       here_is : tree cells cell ≡ node L c.element R
-      here_is = node_is k cells sound cell c e d.live
+      here_is = node_is sound _ e d.live
 
       pub descent_good : Good k cells cell c
-      descent_good = node_good k cells sound cell c e d.live
+      descent_good = node_good sound _ e d.live
 
       pub go_left : at < span (shape k) L → Descent k cells root p c.left at (lefts ++ (cell ∷ [])) rights
       go_left low = record {
@@ -96,9 +97,9 @@ module _ {E A S : Type 0} (k : Meaning E A S) (cells : List (Cell E S)) (sound :
         to_left =
             rw (passed_left_append d.steps (to_left c.element R ∷ []))
             (table_last false cells lefts (passed_left d.steps) cell (c.element, R) d.to_left
-            (record { cell = c; at = e; live = node_live k cells sound cell c e d.live; is = refl }));
+            (record { cell = c; at = e; live = node_live sound _ e d.live; is = refl }));
         to_right = rw (passed_right_append d.steps (to_left c.element R ∷ []), append-nil (passed_right d.steps)) d.to_right;
-        nested = nested_push cells (cell_count cells root + 1) lefts (cell_count cells cell + 1) cell c d.nested e (node_live k cells sound cell c e d.live) (omega arith);
+        nested = nested_push cells (cell_count cells root + 1) lefts (cell_count cells cell + 1) cell c d.nested e (node_live sound _ e d.live) (omega arith);
         base = d.base;
         comes =
             let more : length lefts + length rights + 1 ≡ length (lefts ++ (cell ∷ [])) + length rights = omega (arith, length-append lefts (cell ∷ [])) in
@@ -109,7 +110,7 @@ module _ {E A S : Type 0} (k : Meaning E A S) (cells : List (Cell E S)) (sound :
       pub go_right : (q : ℕ) → at ≡ span (shape k) L + length (k.atoms c.element) + q → Descent k cells root p c.right q lefts (rights ++ (cell ∷ []))
       go_right q is_at = record {
         live = descent_good.right_live;
-        inside = omega (arith, d.inside, node_span k cells sound cell c e d.live);
+        inside = omega (arith, d.inside, node_span sound _ e d.live);
         steps = d.steps ++ (to_right L c.element ∷ []);
         is = d.is ∙ ap (λ t. walked d.steps (way (shape k) t at)) here_is
             ∙ ap (λ (n : ℕ). walked d.steps (way (shape k) (node L c.element R) n)) is_at
@@ -119,8 +120,8 @@ module _ {E A S : Type 0} (k : Meaning E A S) (cells : List (Cell E S)) (sound :
         to_right =
             rw (passed_right_append d.steps (to_right L c.element ∷ []))
             (table_last true cells rights (passed_right d.steps) cell (c.element, seen true cells c.left) d.to_right
-            (record { cell = c; at = e; live = node_live k cells sound cell c e d.live; is = refl }));
-        nested = nested_less cells (cell_count cells root + 1) lefts (cell_count cells cell + 1) (cell_count cells c.right + 1) d.nested (omega (arith, node_count k cells sound cell c e d.live));
+            (record { cell = c; at = e; live = node_live sound _ e d.live; is = refl }));
+        nested = nested_less cells (cell_count cells root + 1) lefts (cell_count cells cell + 1) (cell_count cells c.right + 1) d.nested (omega (arith, node_count sound _ e d.live));
         base = d.base + (span (shape k) L + length (k.atoms c.element));
         comes =
             let more : length lefts + length rights + 1 ≡ length lefts + length (rights ++ (cell ∷ [])) = omega (arith, length-append rights (cell ∷ [])) in
@@ -138,17 +139,17 @@ module _ {E A S : Type 0} (k : Meaning E A S) (cells : List (Cell E S)) (sound :
           record {
             cell = c;
             at = e;
-            live = node_live k cells sound cell c e d.live;
+            live = node_live sound _ e d.live;
             steps = d.steps;
             is = d.is ∙ ap (walked d.steps) (there ∙ ends);
             inside = low;
             to_left = d.to_left;
             to_right = d.to_right;
             nested = d.nested;
-            leads = leads_by root p (length lefts + length rights + 1) live few depth_is;
+            leads = leads_by k cells sound root p (length lefts + length rights + 1) live few depth_is;
           }
 
       pub arrive_path : (q : ℕ) → Live cells root → at ≡ span (shape k) L + q → q < length (k.atoms c.element) → PathTo k cells root p (length lefts + length rights + 1) cell
       arrive_path q live is_at low =
-          let on = comes_on k cells root cell (length lefts + length rights) d.base c e d.comes p q (node_live k cells sound cell c e d.live) (omega (arith, d.reached)) low in
+          let on = comes_on k cells root cell (length lefts + length rights) d.base c e d.comes p q (node_live sound _ e d.live) (omega (arith, d.reached)) low in
           record { by_path = path_counted k cells sound d.comes p (length lefts + length rights + 1) live on refl; ended = d.comes.leads }

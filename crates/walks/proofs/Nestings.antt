@@ -80,17 +80,15 @@ module _ {E A S : Type 0} (k : Meaning E A S) (cells : List (Cell E S)) (sound :
         begun_append (pending cells is) (from_own cells (slice_get cells i)) (pending_begun (cell_count cells n.cell.left + 1) is v n.left)
         (subst (λ o. Begun (shape k) 0 (from_own cells o)) (sym n.at) (laws.some n.cell.element (sound i n.cell n.at n.live).lawful))
 
-  -- ---- down the left children
+-- ---- down the left children
 
-  pub spine_start : (table : List ℕ) (n link : ℕ) → Live cells link → length table ≡ 64 → n ≤ 64 → Nested cells (most + 1) (take n table) (cell_count cells link + 1) → SpineAt cells (take n table) link table n link
-  spine_start table n link live long fits nested = record { live = live; long = long; fits = fits; nested = nested; waits = refl }
-
-  module _ (old : List ℕ) (link : ℕ) (table : List ℕ) (n cell : ℕ) (s : SpineAt cells old link table n cell) where
+module _ {E A S : Type 0} {k : Meaning E A S} {cells : List (Cell E S)} (sound : Sound k cells) where
+  module _ {old : List ℕ} {link : ℕ} {table : List ℕ} {n cell : ℕ} (s : SpineAt cells old link table n cell) where
     pub spine_room : n < 64
-    spine_room = omega (arith, nested_short (take n table) (cell_count cells cell + 1) (omega arith) s.nested, length-take n table, s.long, s.fits)
+    spine_room = omega (arith, nested_short k cells sound (take n table) (cell_count cells cell + 1) (omega arith) s.nested, length-take n table, s.long, s.fits)
 
-    pub spine_more : (c : Cell E S) → slice_get cells cell ≡ Some c → SpineAt cells old link (set table n cell) (n + 1) c.left
-    spine_more c at =
+    pub spine_more : {c : Cell E S} → slice_get cells cell ≡ Some c → SpineAt cells old link (set table n cell) (n + 1) c.left
+    spine_more {c} at =
         let live = subst linked at s.live in
         let good = sound cell c at live in
         let room : n < length table = omega (arith, spine_room, s.long) in
@@ -109,8 +107,8 @@ module _ {E A S : Type 0} (k : Meaning E A S) (cells : List (Cell E S)) (sound :
               ∙ s.waits;
         }
 
-    pub spine_falls : (c : Cell E S) → slice_get cells cell ≡ Some c → cell_count cells c.left < cell_count cells cell
-    spine_falls c at = omega (arith, ap counted at, (sound cell c at (subst linked at s.live)).counts)
+    pub spine_falls : {c : Cell E S} → slice_get cells cell ≡ Some c → cell_count cells c.left < cell_count cells cell
+    spine_falls {c} at = omega (arith, ap counted at, (sound cell c at (subst linked at s.live)).counts)
 
     -- a live link with no elements under it names no cell
     spine_none : cell_count cells cell ≡ 0 → slice_get cells cell ≡ None

@@ -19,7 +19,8 @@ module _ {E A S : Type 0} (k : Meaning E A S) (cells : List (Cell E S)) (sound :
       step None is = absurd (omega (arith, ap (span (shape k)) (none_tree cells i is)))
       step (Some c) is = some_in cells i c is
 
-  module _ (i : ℕ) (c : Cell E S) (at : slice_get cells i ≡ Some c) (live : Live cells i) where
+module _ {E A S : Type 0} {k : Meaning E A S} {cells : List (Cell E S)} (sound : Sound k cells) where
+  module _ (i : ℕ) {c : Cell E S} (at : slice_get cells i ≡ Some c) (live : Live cells i) where
     pub node_live : 0 < c.refs
     node_live = subst linked at live
 

@@ -65,9 +65,9 @@ module _ {E A S : Type 0} (k : Meaning E A S) (cells : List (Cell E S)) (sound :
       → skipped k cells side o + start_of k cells (child side i o) path + span (shape k) (tree cells (follow cells (child side i o) path)) ≤ span (shape k) (tree cells i)
   within_more path below side i None at live = omega (arith, below i live)
   within_more path below false i (Some c) at live =
-      omega (arith, below c.left (node_good k cells sound i c at live).left_live, node_span k cells sound i c at live)
+      omega (arith, below c.left (node_good sound _ at live).left_live, node_span sound _ at live)
   within_more path below true i (Some c) at live =
-      omega (arith, below c.right (node_good k cells sound i c at live).right_live, node_span k cells sound i c at live)
+      omega (arith, below c.right (node_good sound _ at live).right_live, node_span sound _ at live)
 
   within : (path : List Bool) (i : ℕ) → Live cells i → Within path i
   within [] i live = omega arith
@@ -76,7 +76,7 @@ module _ {E A S : Type 0} (k : Meaning E A S) (cells : List (Cell E S)) (sound :
   on_inside : (i p : ℕ) (path : List Bool) → Live cells i → OnPath k cells i p path → p < span (shape k) (tree cells i)
   on_inside i p path live on =
       let there : Live cells (follow cells i path) = subst linked (sym on.at) on.live in
-      omega (arith, within path i live, on.ends, node_span k cells sound (follow cells i path) on.cell on.at there)
+      omega (arith, within path i live, on.ends, node_span sound _ on.at there)
 
   -- no path leads on from where no cell stands
   lost_stays : (i : ℕ) (path : List Bool) → slice_get cells i ≡ None → slice_get cells (follow cells i path) ≡ None
@@ -102,7 +102,7 @@ module _ {E A S : Type 0} (k : Meaning E A S) (cells : List (Cell E S)) (sound :
         }
 
     left_inside : (path : List Bool) → OnPath k cells i p (false ∷ path) → p < span (shape k) (tree cells c.left)
-    left_inside path on = omega (arith, on_inside c.left (p - 0) path (node_good k cells sound i c at live).left_live (on_rest false path on))
+    left_inside path on = omega (arith, on_inside c.left (p - 0) path (node_good sound _ at live).left_live (on_rest false path on))
 
     here_is : OnPath k cells i p [] → (span (shape k) (tree cells c.left) ≤ p) × (p < span (shape k) (tree cells c.left) + length (k.atoms c.element))
     here_is on =
@@ -141,7 +141,7 @@ module _ {E A S : Type 0} (k : Meaning E A S) (cells : List (Cell E S)) (sound :
   path_only (false ∷ path) (false ∷ other) i p live on off =
       let b = begun i p (false ∷ path) on (slice_get cells i) refl in
       ap (λ l. false ∷ l)
-      (path_only path other b.0.left (p - 0) (node_good k cells sound i b.0 b.1 live).left_live (on_rest i p b.0 b.1 live false path on) (on_rest i p b.0 b.1 live false other off))
+      (path_only path other b.0.left (p - 0) (node_good sound _ b.1 live).left_live (on_rest i p b.0 b.1 live false path on) (on_rest i p b.0 b.1 live false other off))
   path_only (false ∷ path) (true ∷ other) i p live on off =
       let b = begun i p (false ∷ path) on (slice_get cells i) refl in
       absurd (sides_only i p b.0 b.1 live path other on off)
@@ -151,7 +151,7 @@ module _ {E A S : Type 0} (k : Meaning E A S) (cells : List (Cell E S)) (sound :
   path_only (true ∷ path) (true ∷ other) i p live on off =
       let b = begun i p (true ∷ path) on (slice_get cells i) refl in
       ap (λ l. true ∷ l)
-      (path_only path other b.0.right (p - skipped k cells true (Some b.0)) (node_good k cells sound i b.0 b.1 live).right_live
+      (path_only path other b.0.right (p - skipped k cells true (Some b.0)) (node_good sound _ b.1 live).right_live
       (on_rest i p b.0 b.1 live true path on) (on_rest i p b.0 b.1 live true other off))
 
   -- the path on which a walk came is the only one that holds the place, and the cells on it are counted

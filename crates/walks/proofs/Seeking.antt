@@ -2,20 +2,20 @@
 use Rattle.std.proofs.Common.{◌≡◌, ℕ, ◌+◌, ◌<◌, ◌≤◌, List, [], ◌++◌, length, Some, sym, refl, ap, ◌∙◌, subst, append_assoc, append-nil, zero-add, arith, length-append}
 use Rattle.std.specs.List.{slice_get}
 use Rattle.faults.specs.Limits.{limit}
-use Rattle.kinds.specs.Kinds.{Meaning, Laws, Tallies}
+use Rattle.kinds.specs.Kinds.{Meaning, Laws, Tallies, total}
 use Rattle.balance.specs.Trees.{Tree, node}
 use Rattle.balance.specs.Levels.{most, deepest}
 use Rattle.balance.specs.Ways.{depth, span, way}
 use Rattle.balance.proofs.Ways.{way_left, way_here, way_right}
 use Rattle.cells.specs.declared.cell.Cell.{Cell}
-use Rattle.cells.specs.Cells.{shape, cell_count, tree, meant, Live, Sound}
+use Rattle.cells.specs.Cells.{shape, cell_count, tree, meant, sum_at, Live, Good, Sound}
 use Rattle.cells.proofs.Trees.{meant_span}
 use Rattle.walks.specs.Paths.{ByPath}
 use Rattle.walks.specs.Tallying.{Passes, Finds}
 use Rattle.walks.proofs.Nodes.{inside_named, node_live, node_good, node_is, node_span, node_meant}
 use Rattle.walks.proofs.Descent.{leads_by}
 use Rattle.walks.proofs.Paths.{Comes, comes_none, comes_left, comes_right, comes_on, path_counted}
-use Rattle.walks.proofs.Sums.{Few, few_left, few_right, few_tree}
+use Rattle.walks.proofs.Sums.{Few, few_left, few_right, few_tree, sum_is, width_is}
 use Rattle.walks.proofs.Halving.{tally_of, tally_append, tally_some, passes_in}
 
 -- The walk stands at a cell. Before its tree lie base atoms, whose tally lacks rest; every place in its tree is as many
@@ -56,7 +56,8 @@ module _ {E A S : Type 0} (k : Meaning E A S) (laws : Laws k) (tally : S → ℕ
     comes = comes_none k cells root;
   }
 
-  module _ (root t cell rest base passed : ℕ) (live : Live cells root) (s : Sought k tally cells root t cell rest base passed) where
+module _ {E A S : Type 0} {k : Meaning E A S} (laws : Laws k) {tally : S → ℕ} (adds : Tallies k tally) {cells : List (Cell E S)} (sound : Sound k cells) where
+  module _ {root t cell rest base passed : ℕ} (live : Live cells root) (s : Sought k tally cells root t cell rest base passed) where
     some_inside : 0 < span (shape k) (tree cells cell)
     some_inside = omega (arith, tally_some k laws tally adds (meant k (tree cells cell)) rest s.inside, meant_span k (tree cells cell))
 
@@ -69,7 +70,7 @@ module _ {E A S : Type 0} (k : Meaning E A S) (laws : Laws k) (tally : S → ℕ
     whole_few : Few k (s.front ++ (meant k (tree cells cell) ++ s.behind))
     whole_few = subst (Few k) s.listed (few_tree k cells sound root live)
 
-    module _ (c : Cell E S) (at : slice_get cells cell ≡ Some c) where
+    module _ {c : Cell E S} (at : slice_get cells cell ≡ Some c) where
       abbrev L : Tree E
       L = tree cells c.left
 
@@ -86,10 +87,10 @@ module _ {E A S : Type 0} (k : Meaning E A S) (laws : Laws k) (tally : S → ℕ
       right_atoms = meant k R
 
       here_is : tree cells cell ≡ node L c.element R
-      here_is = node_is k cells sound cell c at s.live
+      here_is = node_is sound _ at s.live
 
       here_meant : meant k (tree cells cell) ≡ left_atoms ++ (own_atoms ++ right_atoms)
-      here_meant = node_meant k cells sound cell c at s.live
+      here_meant = node_meant sound _ at s.live
 
       listed_here : meant k (tree cells root) ≡ s.front ++ ((left_atoms ++ (own_atoms ++ right_atoms)) ++ s.behind)
       listed_here = s.listed ∙ ap (λ l. s.front ++ (l ++ s.behind)) here_meant
@@ -112,7 +113,7 @@ module _ {E A S : Type 0} (k : Meaning E A S) (laws : Laws k) (tally : S → ℕ
 
       pub sought_left : rest < tally_of k tally left_atoms → Sought k tally cells root t c.left rest base (passed + 1)
       sought_left low = record {
-        live = (node_good k cells sound cell c at s.live).left_live;
+        live = (node_good sound _ at s.live).left_live;
         front = s.front;
         behind = (own_atoms ++ right_atoms) ++ s.behind;
         listed = listed_here ∙ to_left s.front left_atoms own_atoms right_atoms s.behind;
@@ -122,7 +123,7 @@ module _ {E A S : Type 0} (k : Meaning E A S) (laws : Laws k) (tally : S → ℕ
         leads = λ q inside.
             omega (
               arith,
-              s.leads q (omega (arith, node_span k cells sound cell c at s.live)),
+              s.leads q (omega (arith, node_span sound _ at s.live)),
               ap (λ u. depth (way (shape k) u q)) here_is,
               ap depth (way_left (shape k) L c.element R q inside),
             );
@@ -136,7 +137,7 @@ module _ {E A S : Type 0} (k : Meaning E A S) (laws : Laws k) (tally : S → ℕ
           let listed' = listed_here ∙ to_right s.front left_atoms own_atoms right_atoms s.behind in
           let few' : Few k front' = few_left k front' (right_atoms ++ s.behind) (subst (Few k) listed' (few_tree k cells sound root live)) in
           record {
-            live = (node_good k cells sound cell c at s.live).right_live;
+            live = (node_good sound _ at s.live).right_live;
             front = front';
             behind = s.behind;
             listed = listed';
@@ -153,7 +154,7 @@ module _ {E A S : Type 0} (k : Meaning E A S) (laws : Laws k) (tally : S → ℕ
                 let there : base + far ≡ b + q = omega arith in
                 omega (
                   arith,
-                  s.leads far (omega (arith, node_span k cells sound cell c at s.live)),
+                  s.leads far (omega (arith, node_span sound _ at s.live)),
                   ap (λ (n : ℕ). depth (way (shape k) (tree cells root) n)) there,
                   ap (λ u. depth (way (shape k) u far)) here_is,
                   ap depth (way_right (shape k) L c.element R q),
@@ -162,6 +163,16 @@ module _ {E A S : Type 0} (k : Meaning E A S) (laws : Laws k) (tally : S → ℕ
                 let b_far : base + (span (shape k) L + length own_atoms) ≡ b = omega arith in
                 subst (λ (n : ℕ). Comes k cells root c.right (passed + 1) n) b_far (comes_right k cells root cell passed base c at s.comes);
           }
+
+      pub sought_good : Good k cells cell c
+      sought_good = node_good sound _ at s.live
+
+      -- the summary that the left child tells
+      pub sought_sum : {left : S} → left ≡ sum_at k cells c.left → left ≡ total k left_atoms
+      sought_sum is = is ∙ sum_is k laws cells sound c.left sought_good.left_live
+
+      pub sought_width : {left : S} → left ≡ sum_at k cells c.left → k.width left ≡ span (shape k) L
+      sought_width is = ap k.width is ∙ width_is k laws cells sound c.left sought_good.left_live
 
       -- there are no more atoms before the cell's own, and before its right child, than the limit
       pub sought_few : base + span (shape k) L + length own_atoms ≤ limit
@@ -192,7 +203,7 @@ module _ {E A S : Type 0} (k : Meaning E A S) (laws : Laws k) (tally : S → ℕ
           omega (
             arith,
             ap (λ (m : ℕ). depth (way (shape k) (tree cells root) m)) place_far,
-            s.leads far (omega (arith, p.inside, node_span k cells sound cell c at s.live)),
+            s.leads far (omega (arith, p.inside, node_span sound _ at s.live)),
             ap (λ u. depth (way (shape k) u far)) here_is,
             ap depth (way_here (shape k) L c.element R n p.inside),
           ) in
@@ -203,5 +214,5 @@ module _ {E A S : Type 0} (k : Meaning E A S) (laws : Laws k) (tally : S → ℕ
 
       pub sought_path : (n place count : ℕ) → n < length own_atoms → place ≡ base + span (shape k) L + n → count ≡ passed + 1 → ByPath k cells root place count
       sought_path n place count low place_is count_is =
-          let on = comes_on k cells root cell passed base c at s.comes place n (node_live k cells sound cell c at s.live) (omega arith) low in
+          let on = comes_on k cells root cell passed base c at s.comes place n (node_live sound _ at s.live) (omega arith) low in
           path_counted k cells sound s.comes place count live on count_is

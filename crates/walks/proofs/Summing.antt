@@ -1,5 +1,5 @@
 -- The walks that sum up a range, turn by turn.
-use Rattle.std.proofs.Common.{◌≡◌, ℕ, ◌+◌, ◌-◌, ◌<◌, ◌≤◌, min, List, [], ◌++◌, length, take, drop, Some, sym, refl, ap, ◌∙◌, subst, append_assoc, append-nil, arith, length-drop, take_all}
+use Rattle.std.proofs.Common.{◌≡◌, ℕ, ◌+◌, ◌-◌, ◌<◌, ◌≤◌, min, List, [], ◌++◌, length, take, drop, Some, sym, ap, ◌∙◌, subst, append_assoc, append-nil, arith, length-drop, take_all}
 use Rattle.std.proofs.lemmas.List.{drop_all}
 use Rattle.std.specs.List.{slice_get}
 use Rattle.faults.specs.Limits.{limit}
@@ -44,7 +44,7 @@ module _ {E A S : Type 0} (k : Meaning E A S) (cells : List (Cell E S)) where
     pub inside : at + len ≤ span (shape k) (tree cells cell)
     pub listed : take len (drop from (meant k (tree cells root))) ≡ take len (drop at (meant k (tree cells cell)))
 
-module _ {E A S : Type 0} (k : Meaning E A S) (laws : Laws k) (cells : List (Cell E S)) (sound : Sound k cells) where
+module _ {E A S : Type 0} {k : Meaning E A S} (laws : Laws k) {cells : List (Cell E S)} (sound : Sound k cells) where
   -- ---- the tail
 
   pub tail_none : (link from : ℕ) (sum : S) → sum ≡ k.none → from ≡ span (shape k) (tree cells link) → sum ≡ total k (drop from (meant k (tree cells link)))
@@ -56,7 +56,7 @@ module _ {E A S : Type 0} (k : Meaning E A S) (laws : Laws k) (cells : List (Cel
   pub tail_start : (link from : ℕ) (sum : S) → Live cells link → from ≤ span (shape k) (tree cells link) → sum ≡ k.none → TailAt k cells link from link from sum
   tail_start link from sum live inside sum_none = record { live = live; inside = inside; behind = []; listed = sym (append-nil _); summed = sum_none }
 
-  module _ (link from cell at : ℕ) (sum : S) (live : Live cells link) (t : TailAt k cells link from cell at sum) where
+  module _ {link from cell at : ℕ} {sum : S} (live : Live cells link) (t : TailAt k cells link from cell at sum) where
     pub tail_named : 0 < at → cell < length cells
     tail_named some = inside_named k cells sound cell 0 (omega (arith, t.inside))
 
@@ -69,7 +69,7 @@ module _ {E A S : Type 0} (k : Meaning E A S) (laws : Laws k) (cells : List (Cel
         let few' : Few k (meant k (tree cells cell) ++ t.behind) = subst (λ (n : ℕ). Few k (drop n (meant k (tree cells cell)) ++ t.behind)) none tail_few in
         join_sum k laws (meant k (tree cells cell)) t.behind s sum r few' (s_is ∙ sum_is k laws cells sound cell t.live) t.summed asked ∙ ap (total k) (sym listed')
 
-    module _ (c : Cell E S) (is : slice_get cells cell ≡ Some c) where
+    module _ {c : Cell E S} (is : slice_get cells cell ≡ Some c) where
       abbrev L : List A
       L = meant k (tree cells c.left)
 
@@ -80,7 +80,7 @@ module _ {E A S : Type 0} (k : Meaning E A S) (laws : Laws k) (cells : List (Cel
       R = meant k (tree cells c.right)
 
       here_meant : meant k (tree cells cell) ≡ L ++ (M ++ R)
-      here_meant = node_meant k cells sound cell c is t.live
+      here_meant = node_meant sound _ is t.live
 
       left_length : length L ≡ span (shape k) (tree cells c.left)
       left_length = meant_span k (tree cells c.left)
@@ -93,12 +93,12 @@ module _ {E A S : Type 0} (k : Meaning E A S) (laws : Laws k) (cells : List (Cel
         behind_sum : s ≡ total k (R ++ t.behind)
         behind_sum =
             join_sum k laws R t.behind right sum s (few_right k xs (R ++ t.behind) few_parts)
-            (right_is ∙ sum_is k laws cells sound c.right (node_good k cells sound cell c is t.live).right_live) t.summed asked
+            (right_is ∙ sum_is k laws cells sound c.right (node_good sound _ is t.live).right_live) t.summed asked
 
       pub tail_left : (right s r : S) → at < span (shape k) (tree cells c.left) → right ≡ sum_at k cells c.right → JoinOf k cells right sum s → JoinOf k cells c.own s r
           → TailAt k cells link from c.left at r
       tail_left right s r low right_is asked asked' =
-          let good = node_good k cells sound cell c is t.live in
+          let good = node_good sound _ is t.live in
           let listed' : drop from (meant k (tree cells link)) ≡ drop at L ++ (M ++ (R ++ t.behind)) =
           t.listed ∙ ap (λ l. drop at l ++ t.behind) here_meant ∙ ap (λ l. l ++ t.behind) (drop_left L M R at (omega (arith, left_length)))
           ∙ append_assoc (drop at L) (M ++ R) t.behind ∙ ap (λ l. drop at L ++ l) (append_assoc M R t.behind) in
@@ -125,8 +125,8 @@ module _ {E A S : Type 0} (k : Meaning E A S) (laws : Laws k) (cells : List (Cel
 
       pub tail_right : (q : ℕ) → at ≡ span (shape k) (tree cells c.left) + length M + q → TailAt k cells link from c.right q sum
       tail_right q at_is = record {
-        live = (node_good k cells sound cell c is t.live).right_live;
-        inside = omega (arith, t.inside, node_span k cells sound cell c is t.live);
+        live = (node_good sound _ is t.live).right_live;
+        inside = omega (arith, t.inside, node_span sound _ is t.live);
         behind = t.behind;
         listed = t.listed ∙ ap (λ l. drop at l ++ t.behind) here_meant ∙ ap (λ l. l ++ t.behind) (drop_right L M R at q (omega (arith, left_length)));
         summed = t.summed;
@@ -134,10 +134,7 @@ module _ {E A S : Type 0} (k : Meaning E A S) (laws : Laws k) (cells : List (Cel
 
   -- ---- the head
 
-  pub head_start : (link len : ℕ) (sum : S) → Live cells link → 0 < len → len ≤ span (shape k) (tree cells link) → sum ≡ k.none → HeadAt k cells link len link len sum
-  head_start link len sum live some inside sum_none = record { live = live; some = some; inside = inside; before = []; listed = refl; summed = sum_none }
-
-  module _ (link len cell rest : ℕ) (sum : S) (live : Live cells link) (h : HeadAt k cells link len cell rest sum) where
+  module _ {link len cell rest : ℕ} {sum : S} (live : Live cells link) (h : HeadAt k cells link len cell rest sum) where
     pub head_named : cell < length cells
     head_named = inside_named k cells sound cell 0 (omega (arith, h.inside, h.some))
 
@@ -150,7 +147,7 @@ module _ {E A S : Type 0} (k : Meaning E A S) (laws : Laws k) (cells : List (Cel
         h.listed ∙ ap (λ l. h.before ++ l) (take_all rest (meant k (tree cells cell)) (omega (arith, meant_span k (tree cells cell)))) in
         join_sum k laws h.before (meant k (tree cells cell)) sum s r (head_few _ listed') h.summed (s_is ∙ sum_is k laws cells sound cell h.live) asked ∙ ap (total k) (sym listed')
 
-    module _ (c : Cell E S) (is : slice_get cells cell ≡ Some c) where
+    module _ {c : Cell E S} (is : slice_get cells cell ≡ Some c) where
       abbrev L' : List A
       L' = meant k (tree cells c.left)
 
@@ -161,14 +158,14 @@ module _ {E A S : Type 0} (k : Meaning E A S) (laws : Laws k) (cells : List (Cel
       R' = meant k (tree cells c.right)
 
       head_meant : meant k (tree cells cell) ≡ L' ++ (M' ++ R')
-      head_meant = node_meant k cells sound cell c is h.live
+      head_meant = node_meant sound _ is h.live
 
       head_length : length L' ≡ span (shape k) (tree cells c.left)
       head_length = meant_span k (tree cells c.left)
 
       pub head_left : rest ≤ span (shape k) (tree cells c.left) → HeadAt k cells link len c.left rest sum
       head_left low = record {
-        live = (node_good k cells sound cell c is h.live).left_live;
+        live = (node_good sound _ is h.live).left_live;
         some = h.some;
         inside = low;
         before = h.before;
@@ -180,7 +177,7 @@ module _ {E A S : Type 0} (k : Meaning E A S) (laws : Laws k) (cells : List (Cel
       before_sum : (xs : List A) → take len (meant k (tree cells link)) ≡ (h.before ++ L') ++ xs → (left s : S) → left ≡ sum_at k cells c.left → JoinOf k cells sum left s → s ≡ total k (h.before ++ L')
       before_sum xs listed' left s left_is asked =
           join_sum k laws h.before L' sum left s (few_left k (h.before ++ L') xs (head_few _ listed')) h.summed
-          (left_is ∙ sum_is k laws cells sound c.left (node_good k cells sound cell c is h.live).left_live) asked
+          (left_is ∙ sum_is k laws cells sound c.left (node_good sound _ is h.live).left_live) asked
 
       pub head_own : (past : ℕ) (left s p r : S) → rest ≡ span (shape k) (tree cells c.left) + past → past ≤ length M' → p ≡ total k (take past (drop 0 M'))
           → left ≡ sum_at k cells c.left → JoinOf k cells sum left s → JoinOf k cells s p r → r ≡ total k (take len (meant k (tree cells link)))
@@ -193,7 +190,7 @@ module _ {E A S : Type 0} (k : Meaning E A S) (laws : Laws k) (cells : List (Cel
       pub head_right : (q : ℕ) (left s r : S) → rest ≡ span (shape k) (tree cells c.left) + length M' + q → 0 < q
           → left ≡ sum_at k cells c.left → JoinOf k cells sum left s → JoinOf k cells s c.own r → HeadAt k cells link len c.right q r
       head_right q left s r rest_is some left_is asked asked' =
-          let good = node_good k cells sound cell c is h.live in
+          let good = node_good sound _ is h.live in
           let listed' : take len (meant k (tree cells link)) ≡ (h.before ++ L') ++ (M' ++ take q R') =
           h.listed ∙ ap (λ l. h.before ++ take rest l) head_meant ∙ ap (λ l. h.before ++ l) (take_right L' M' R' rest q (omega (arith, head_length)))
           ∙ sym (append_assoc h.before L' (M' ++ take q R')) in
@@ -201,7 +198,7 @@ module _ {E A S : Type 0} (k : Meaning E A S) (laws : Laws k) (cells : List (Cel
           record {
             live = good.right_live;
             some = some;
-            inside = omega (arith, h.inside, node_span k cells sound cell c is h.live);
+            inside = omega (arith, h.inside, node_span sound _ is h.live);
             before = (h.before ++ L') ++ M';
             listed = listed'';
             summed = join_sum k laws (h.before ++ L') M' s c.own r (few_left k ((h.before ++ L') ++ M') (take q R') (head_few _ listed''))
@@ -214,28 +211,28 @@ module _ {E A S : Type 0} (k : Meaning E A S) (laws : Laws k) (cells : List (Cel
   pub span_few : (i : ℕ) → Live cells i → span (shape k) (tree cells i) ≤ limit
   span_few i live = omega (arith, (few_tree k cells sound i live).few, meant_span k (tree cells i))
 
-  module _ (root from len cell at : ℕ) (some : 1 ≤ len) (f : ForkAt k cells root from len cell at) where
+  module _ {root from len cell at : ℕ} (some : 1 ≤ len) (f : ForkAt k cells root from len cell at) where
     pub fork_named : cell < length cells
     fork_named = inside_named k cells sound cell at (omega (arith, f.inside))
 
-    module _ (c : Cell E S) (is : slice_get cells cell ≡ Some c) where
+    module _ {c : Cell E S} (is : slice_get cells cell ≡ Some c) where
       fork_meant : meant k (tree cells cell) ≡ meant k (tree cells c.left) ++ (k.atoms c.element ++ meant k (tree cells c.right))
-      fork_meant = node_meant k cells sound cell c is f.live
+      fork_meant = node_meant sound _ is f.live
 
       fork_length : length (meant k (tree cells c.left)) ≡ span (shape k) (tree cells c.left)
       fork_length = meant_span k (tree cells c.left)
 
       pub fork_left : at + len ≤ span (shape k) (tree cells c.left) → ForkAt k cells root from len c.left at
       fork_left low = record {
-        live = (node_good k cells sound cell c is f.live).left_live;
+        live = (node_good sound _ is f.live).left_live;
         inside = low;
         listed = f.listed ∙ ap (λ l. take len (drop at l)) fork_meant ∙ range_left (meant k (tree cells c.left)) (k.atoms c.element) (meant k (tree cells c.right)) at len (omega (arith, fork_length));
       }
 
       pub fork_right : (q : ℕ) → at ≡ span (shape k) (tree cells c.left) + length (k.atoms c.element) + q → ForkAt k cells root from len c.right q
       fork_right q at_is = record {
-        live = (node_good k cells sound cell c is f.live).right_live;
-        inside = omega (arith, f.inside, node_span k cells sound cell c is f.live);
+        live = (node_good sound _ is f.live).right_live;
+        inside = omega (arith, f.inside, node_span sound _ is f.live);
         listed = f.listed ∙ ap (λ l. take len (drop at l)) fork_meant
             ∙ ap (take len) (drop_right (meant k (tree cells c.left)) (k.atoms c.element) (meant k (tree cells c.right)) at q (omega (arith, fork_length)));
       }
@@ -244,7 +241,7 @@ module _ {E A S : Type 0} (k : Meaning E A S) (laws : Laws k) (cells : List (Cel
           → Forked k cells root from len (record { cell = cell; from = at })
       fork_here late early = record { cell = c; at = is; live = f.live; listed = f.listed; inside = f.inside; not_before = late; not_behind = early }
 
-  module _ (root from len : ℕ) (r : Fork) (f : Forked k cells root from len r) (c : Cell E S) (is : slice_get cells r.cell ≡ Some c) where
+  module _ {root from len : ℕ} {r : Fork} (f : Forked k cells root from len r) {c : Cell E S} (is : slice_get cells r.cell ≡ Some c) where
     same_cell : f.cell ≡ c
     same_cell = let f_is = f.at in cc
 
@@ -255,7 +252,7 @@ module _ {E A S : Type 0} (k : Meaning E A S) (laws : Laws k) (cells : List (Cel
     parted_early = subst (λ (x : Cell E S). r.from < span (shape k) (tree cells x.left) + length (k.atoms x.element)) same_cell f.not_behind
 
     pub parted_inside : r.from + len ≤ span (shape k) (tree cells c.left) + length (k.atoms c.element) + span (shape k) (tree cells c.right)
-    parted_inside = omega (arith, f.inside, node_span k cells sound r.cell c is f.live)
+    parted_inside = omega (arith, f.inside, node_span sound _ is f.live)
 
     -- the three parts of a range, joined
     pub parted_sum : (skipped rest taken : ℕ) (left middle right behind all : S) → Live cells root
@@ -274,7 +271,7 @@ module _ {E A S : Type 0} (k : Meaning E A S) (laws : Laws k) (cells : List (Cel
         let early = parted_early in
         let D : List A = drop (min r.from (length L)) L in
         let listed' : take len (drop from (meant k (tree cells root))) ≡ D ++ (take taken (drop skipped M) ++ take (rest - taken) R) =
-        f.listed ∙ ap (λ l. take len (drop r.from l)) (node_meant k cells sound r.cell c is f.live)
+        f.listed ∙ ap (λ l. take len (drop r.from l)) (node_meant sound _ is f.live)
         ∙ range_parted L M R r.from len skipped rest taken (omega arith) (omega arith) (omega arith) (omega arith) taken_is in
         let few' = subst (Few k) listed' (few_take k len _ (few_drop k from _ (few_tree k cells sound root live))) in
         let left_is' : left ≡ total k D = left_is ∙ ap (λ (n : ℕ). total k (drop (min r.from n) L)) (sym left_length) in

@@ -15,7 +15,7 @@ use kinds::Kind;
 impl<'a, K: Kind> View<'a, K> {
     // The cell that holds the atom `place`. The cells that the walk leaves to their left child are then in `lefts`, the
     // topmost first, and those that it leaves to their right child in `rights`; what these held before is gone.
-    // The paths are lent, for a walk that answered them would copy both, and a read would take half as long again.
+    // The paths are lent, for a walk that answered them would copy both.
     pub fn descend(&self, place: u32, lefts: &mut Path, rights: &mut Path) -> Found
         requires within { place < span (shape (K.meaning self.now.kind)) (tree self.now.cells self.now.root) }
         requires few { cell_count self.now.cells self.now.root ≤ most }

@@ -1,5 +1,5 @@
 use Rattle.std.proofs.Common.{arith}
-use Rattle.cells.proofs.Lists.{some_in}
+use Rattle.std.proofs.lemmas.Option.{slice_get_within}
 use Rattle.splits.proofs.Parts.{root_few, splits_beyond, asks_behind, asks_before, splits_inside}
 use Rattle.splits.proofs.InLists.{divides_tree}
 use Rattle.splits.proofs.parting.part.Goals as goal
@@ -18,7 +18,7 @@ descend-cell-requires-clause-few g c = rw c.new-view.ensures (root_few c.require
 pub cell_at-c-requires : goal.cell_at-c-requires
 cell_at-c-requires g c =
     let w = rw c.new-view.ensures at c.descend-cell.ensures.walked in
-    some_in c.args.cells.now c.descend-cell.result.cell w.cell w.at
+    slice_get_within c.args.cells.now c.descend-cell.result.cell w.cell w.at
 
 pub behind_of-loose-requires : goal.behind_of-loose-requires
 behind_of-loose-requires g c =

@@ -4,18 +4,18 @@ use Rattle.walks.proofs.cursor.Cursor.go_down.Goals as goal
 
 pub cell_at-cell-requires : goal.cell_at-cell-requires
 cell_at-cell-requires g c =
-    spine_named (g.K.Kind.meaning c.args.kind.now) c.args.cells.now c.requires.sound _ _ _ _ _ c.loop-self.invariant (omega (arith, c.loop-self-test.true, c.count_at.ensures))
+    spine_named c.requires.sound c.loop-self.invariant (omega (arith, c.loop-self-test.true, c.count_at.ensures))
 
 pub bounds-self-self : goal.bounds-self-self
-bounds-self-self g c = spine_room (g.K.Kind.meaning c.args.kind.now) c.args.cells.now c.requires.sound _ _ _ _ _ c.loop-self.invariant
+bounds-self-self g c = spine_room c.requires.sound c.loop-self.invariant
 
 pub loop-self-smaller : goal.loop-self-smaller
-loop-self-smaller g c = spine_falls (g.K.Kind.meaning c.args.kind.now) c.args.cells.now c.requires.sound _ _ _ _ _ c.loop-self.invariant c.cell_at-cell.result c.cell_at-cell.ensures
+loop-self-smaller g c = spine_falls c.requires.sound c.loop-self.invariant c.cell_at-cell.ensures
 
 pub loop-self-preserved : goal.loop-self-preserved
 loop-self-preserved g c =
-    spine_more (g.K.Kind.meaning c.args.kind.now) c.args.cells.now c.requires.sound _ _ _ _ _ c.loop-self.invariant c.cell_at-cell.result c.cell_at-cell.ensures
+    spine_more c.requires.sound c.loop-self.invariant c.cell_at-cell.ensures
 
 pub returns : goal.returns
 returns g c =
-    spine_end (g.K.Kind.meaning c.args.kind.now) c.args.cells.now c.requires.sound _ _ _ _ _ c.loop-self.invariant (omega (arith, c.loop-self-test.false, c.count_at.ensures))
+    spine_end c.requires.sound c.loop-self.invariant (omega (arith, c.loop-self-test.false, c.count_at.ensures))

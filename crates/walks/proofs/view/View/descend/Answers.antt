@@ -13,18 +13,18 @@ loop-at-init g c =
     (subst (λ v. c.args.place < width g.K.Kind.meaning v) (sym c.self.view_is) c.requires.within))
 
 pub cell_at-c-requires : goal.cell_at-c-requires
-cell_at-c-requires g c = descent_named (g.K.Kind.meaning c.self.inside.kind.now) c.self.inside.cells.now c.self.invariant.sound _ _ _ _ _ _ c.loop-at.invariant
+cell_at-c-requires g c = descent_named c.self.invariant.sound c.loop-at.invariant
 
 pub at-requires : goal.at-requires
 at-requires g c =
     at_live c.self.view_is _
-    (descent_good (g.K.Kind.meaning c.self.inside.kind.now) c.self.inside.cells.now c.self.invariant.sound _ _ _ _ _ _ c.loop-at.invariant c.cell_at-c.result c.cell_at-c.ensures).left_live
+    (descent_good c.self.invariant.sound c.loop-at.invariant c.cell_at-c.ensures).left_live
 
 pub push-requires : goal.push-requires
 push-requires g c =
     omega (
       arith,
-      descent_short (g.K.Kind.meaning c.self.inside.kind.now) c.self.inside.cells.now c.self.invariant.sound _ _ _ _ _ _ c.loop-at.invariant c.self.invariant.live
+      descent_short c.self.invariant.sound c.loop-at.invariant c.self.invariant.live
           (subst (λ v. cell_count v.cells v.root ≤ most) (sym c.self.view_is) c.requires.few),
     )
 
@@ -32,24 +32,24 @@ pub push-requires-else-at-before : goal.push-requires-else-at-before
 push-requires-else-at-before g c =
     omega (
       arith,
-      descent_short (g.K.Kind.meaning c.self.inside.kind.now) c.self.inside.cells.now c.self.invariant.sound _ _ _ _ _ _ c.loop-at.invariant c.self.invariant.live
+      descent_short c.self.invariant.sound c.loop-at.invariant c.self.invariant.live
           (subst (λ v. cell_count v.cells v.root ≤ most) (sym c.self.view_is) c.requires.few),
     )
 
 pub loop-at-smaller-then-at-before : goal.loop-at-smaller-then-at-before
 loop-at-smaller-then-at-before g c =
-    omega (arith, node_count (g.K.Kind.meaning c.self.inside.kind.now) c.self.inside.cells.now c.self.invariant.sound _ c.cell_at-c.result c.cell_at-c.ensures c.loop-at.invariant.live)
+    omega (arith, node_count c.self.invariant.sound _ c.cell_at-c.ensures c.loop-at.invariant.live)
 
 pub loop-at-smaller : goal.loop-at-smaller
 loop-at-smaller g c =
-    omega (arith, node_count (g.K.Kind.meaning c.self.inside.kind.now) c.self.inside.cells.now c.self.invariant.sound _ c.cell_at-c.result c.cell_at-c.ensures c.loop-at.invariant.live)
+    omega (arith, node_count c.self.invariant.sound _ c.cell_at-c.ensures c.loop-at.invariant.live)
 
 pub loop-at-preserved-then-at-before : goal.loop-at-preserved-then-at-before
 loop-at-preserved-then-at-before g c =
     let k = g.K.Kind.meaning c.self.inside.kind.now in
     let before = at_width g.K.Kind.meaning c.self.view_is c.width-before.ensures c.at.ensures in
     rw c.push.ensures.items
-    (go_left k c.self.inside.cells.now c.self.invariant.sound _ _ _ _ _ _ c.loop-at.invariant c.cell_at-c.result c.cell_at-c.ensures (omega (arith, before, c.if-at-before.true)))
+    (go_left c.self.invariant.sound c.loop-at.invariant c.cell_at-c.ensures (omega (arith, before, c.if-at-before.true)))
 
 pub returns-then-past-own : goal.returns-then-past-own
 returns-then-past-own g c =
@@ -58,15 +58,15 @@ returns-then-past-own g c =
     let sound = c.self.invariant.sound in
     let v = c.loop-at.invariant in
     let before = at_width g.K.Kind.meaning c.self.view_is c.width-before.ensures c.at.ensures in
-    let own = c.extent-own.ensures (descent_good k cells sound _ _ _ _ _ _ v c.cell_at-c.result c.cell_at-c.ensures).lawful in
+    let own = c.extent-own.ensures (descent_good c.self.invariant.sound v c.cell_at-c.ensures).lawful in
     let few = subst (λ v. cell_count v.cells v.root ≤ most) (sym c.self.view_is) c.requires.few in
     rw (← c.self.view_is)
     (record {
       walked =
-          arrive k cells sound _ _ _ _ _ _ v c.cell_at-c.result c.cell_at-c.ensures (c.loop-at.at - c.width-before.result)
+          arrive c.self.invariant.sound v c.cell_at-c.ensures (c.loop-at.at - c.width-before.result)
           c.self.invariant.live few (omega (arith, before, c.if-at-before.false)) (omega (arith, own, c.if-past-own.true));
       path =
-          arrive_path k cells sound _ _ _ _ _ _ v c.cell_at-c.result c.cell_at-c.ensures (c.loop-at.at - c.width-before.result)
+          arrive_path c.self.invariant.sound v c.cell_at-c.ensures (c.loop-at.at - c.width-before.result)
           c.self.invariant.live (omega (arith, before, c.if-at-before.false)) (omega (arith, own, c.if-past-own.true));
     })
 
@@ -77,7 +77,7 @@ loop-at-preserved g c =
     let sound = c.self.invariant.sound in
     let v = c.loop-at.invariant in
     let before = at_width g.K.Kind.meaning c.self.view_is c.width-before.ensures c.at.ensures in
-    let own = c.extent-own.ensures (descent_good k cells sound _ _ _ _ _ _ v c.cell_at-c.result c.cell_at-c.ensures).lawful in
+    let own = c.extent-own.ensures (descent_good c.self.invariant.sound v c.cell_at-c.ensures).lawful in
     rw c.push-else-at-before.ensures.items
-    (go_right k cells sound _ _ _ _ _ _ v c.cell_at-c.result c.cell_at-c.ensures (c.loop-at.at - c.width-before.result - c.extent-own.result)
+    (go_right c.self.invariant.sound v c.cell_at-c.ensures (c.loop-at.at - c.width-before.result - c.extent-own.result)
     (omega (arith, own, before, c.if-at-before.false, c.if-past-own.false)))

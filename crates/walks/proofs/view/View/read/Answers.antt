@@ -1,13 +1,7 @@
-use Rattle.std.proofs.Common.{◌≡◌, ◌<◌, length, Some, sym, subst}
+use Rattle.std.proofs.Common.{◌≡◌, Some, subst}
 use Rattle.std.specs.List.{slice_get}
-use Rattle.cells.proofs.Lists.{some_in}
 use Rattle.walks.proofs.Holding.{walked_reads, walked_by_path}
 use Rattle.walks.proofs.view.View.read.Goals as goal
-
-pub cell_at-requires : goal.cell_at-requires
-cell_at-requires g c =
-    let found = c.descend-found.result in
-    subst (λ v. found.cell < length v.cells) (sym c.self.view_is) (some_in c.args.self.now.cells found.cell c.descend-found.ensures.walked.cell c.descend-found.ensures.walked.at)
 
 pub returns : goal.returns
 returns g c =
