@@ -86,6 +86,7 @@ pub fn in_columns<S: Drop, F: Fn(u32, u32) -> S>(
     ensures { IfOk result (λ v. Columns (F.post stretch) extent n v.items) }
 {
     let mut columns = Vec::new(alloc);
+    // Not a `map` that is collected: there it stays open that `stretch` may be called at each number below n.
     for i in 0..n {
         columns.push(stretch(edge_of(extent, n, i), edge_of(extent, n, i + 1)))?;
     }

@@ -4,7 +4,8 @@ ghost use Rattle.profile.specs.Wave.{reaches, mark};
 use audio::Levels;
 use std::alloc::{AllocError, Global};
 
-// Do the levels of a column reach the band from `low` to `high`?
+// Do the levels of a column reach the band from `low` to `high`? The two stay numbers of their own: so do the clauses
+// name them, and a struct of both would be taken apart in each.
 pub fn reaches_band(l: Levels, low: i16, high: i16) -> bool
     ensures { result ≡ reaches low high l }
 {
