@@ -1,5 +1,6 @@
 pub mod Lists
 pub mod Pairs
+pub mod Codes
 pub mod Copies
 pub mod Bytes
 pub mod MuTable

@@ -1,5 +1,5 @@
 -- Lists that are made entry by entry, and what stands at a place of one.
-use Rattle.std.proofs.Common.{◌≡◌, ℕ, zero, suc, ◌+◌, ◌<◌, ◌≤◌, min, List, [], ◌∷◌, ◌++◌, map, length, get_or, take, drop, set, sym, refl, ap, ◌∙◌, arith, length-take}
+use Rattle.std.proofs.Common.{◌≡◌, ℕ, zero, suc, ◌+◌, ◌-◌, ◌<◌, ◌≤◌, min, List, [], ◌∷◌, ◌++◌, map, length, get_or, take, drop, set, sym, refl, ap, ◌∙◌, arith, length-append, length-take}
 use Rattle.std.specs.List.{slice_get}
 use Rattle.std.proofs.lemmas.List.{take_all, drop_more, get_or_at, set_at, append_assoc, take-take, drop-take, take-map, drop-map}
 use Rattle.reels.specs.Samples.{cut}
@@ -24,9 +24,21 @@ pub length_cut : {X : Type 0} (xs : List X) → length (cut xs) ≡ min 10737418
 unfolding cut
 length_cut xs = length-take 1073741824 xs
 
+pub joined_long : {X : Type 0} (xs ys : List X) → length (cut (xs ++ ys)) ≡ min 1073741824 (length xs + length ys)
+joined_long xs ys = simp (length_cut, length-append)
+
 pub nth_cut : {X : Type 0} (xs : List X) (i : ℕ) → i < 1073741824 → slice_get (cut xs) i ≡ slice_get xs i
 unfolding cut
 nth_cut xs i h = nth_take 1073741824 xs i h
+
+-- two lists, one after the other, as far as a reel can have them
+pub joined_front : {X : Type 0} (xs ys : List X) (i : ℕ) → i < 1073741824 → i < length xs → slice_get (cut (xs ++ ys)) i ≡ slice_get xs i
+joined_front xs ys i h k = nth_cut (xs ++ ys) i h ∙ nth_front xs ys i k
+
+pub joined_back : {X : Type 0} (xs ys : List X) (i : ℕ) → i < 1073741824 → length xs ≤ i → slice_get (cut (xs ++ ys)) i ≡ slice_get ys (i - length xs)
+joined_back xs ys i h k =
+    let here : i ≡ length xs + (i - length xs) = omega arith in
+    nth_cut (xs ++ ys) i h ∙ ap (slice_get (xs ++ ys)) here ∙ nth_back xs ys (i - length xs)
 
 pub cut_short : {X : Type 0} (xs : List X) → length xs ≤ 1073741824 → cut xs ≡ xs
 unfolding cut

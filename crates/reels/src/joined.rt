@@ -20,6 +20,7 @@ impl<P, Q> Joined<P, Q> {
     }
 }
 
+#[tactic(auto, using(crate::proofs::Lists::joined_long))]
 impl<P: Reel, Q: Reel> Reel for Joined<P, Q> {
     ghost samples = { λ s. cut (P.Reel.samples (joined_first s) ++ Q.Reel.samples (joined_second s)) };
 

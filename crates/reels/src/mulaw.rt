@@ -54,6 +54,7 @@ impl<'a> MuLaw<'a> {
     }
 }
 
+#[tactic(auto, using(crate::proofs::Codes::mu_law_long))]
 impl<'a> Reel for MuLaw<'a> {
     ghost samples = { λ s. mu_law_samples (mu_law_bytes s) };
 

@@ -28,6 +28,7 @@ impl<'a> Pcm<'a> {
     }
 }
 
+#[tactic(auto, using(crate::proofs::Pairs::pcm_long))]
 impl<'a> Reel for Pcm<'a> {
     ghost samples = { λ s. pcm_samples (pcm_bytes s) };
 

@@ -1,5 +1,4 @@
-use Rattle.std.proofs.Common.{◌≡◌, ◌-◌, ◌++◌, length, take, drop, sym, ap, ◌∙◌, arith, length-take}
-use native.Mathlib.Nat.{sub-zero}
+use Rattle.std.proofs.Common.{◌≡◌, ◌-◌, ◌++◌, length, take, arith, length-take}
 use Rattle.reels.proofs.Lists.{length_cut, stretch_cut}
 use Rattle.reels.proofs.joined.JoinedReel.copy_to.Goals as goal
 
@@ -9,9 +8,6 @@ copy_both-requires g c = let e = simp length_cut at c.len.ensures in simp length
 pub returns : goal.returns
 returns g c =
     let both = g.P.Reel.samples c.args.self.now.first ++ g.Q.Reel.samples c.args.self.now.second in
-    let n = c.fitting-n.result in
     let long : length (take (c.fitting-n.result - 0) c.args.block.now) ≡ c.fitting-n.result = simp length-take (omega arith) in
-    record {
-      count = omega arith;
-      block = simp sub-zero (ap (λ v. v ++ drop n c.args.block.now) (rw long at c.copy_both.ensures ∙ sym (stretch_cut both c.args.start n (omega arith))));
-    }
+    let here = stretch_cut both c.args.start c.fitting-n.result (omega arith) in
+    record { count = omega arith; block = grind arith }
