@@ -1,4 +1,6 @@
 // The rounds: each does one thing at a place without a pattern, always with the same track, and gives back what it made.
+// Each loop stands by itself: a closure over the lent cells would have to say in a contract of its own what the loop's
+// invariant says.
 ghost use Rattle.std.specs.Prelude.{◌≡◌, ◌+◌, ◌^◌, ◌<◌, ◌≤◌, [], ◌∷◌, length};
 ghost use Rattle.faults.specs.Limits.{limit};
 ghost use Rattle.kinds.specs.Places.{extent_of, put_at, without};

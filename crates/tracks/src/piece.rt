@@ -7,7 +7,8 @@ pub struct Piece {
     pub second: u32,
 }
 
-// A track of pieces: its root, how many were laid, and why no more where those were not all.
+// A track of pieces: its root, how many were laid, and why no more where those were not all. What was laid is wanted
+// beside the refusal, so the whole is no Result.
 #[derive(Clone, Copy)]
 pub struct Laid {
     pub root: u32,
