@@ -9,9 +9,10 @@ pub regrow_one-x-requires : goal.regrow_one-x-requires
 regrow_one-x-requires g c = rw c.loop-i.invariant.0.kind (joinable c.requires (c.loop-i.invariant.1 c.requires) _ c.in-Some.field-0.now c.in-Some.ensures.steps)
 
 pub loop-i-preserved : goal.loop-i-preserved
-loop-i-preserved g c =
-    (same_loan_trans c.loop-i.invariant.0 c.regrow_one-x.ensures.same,
-    λ grows. regrowing_more grows (c.loop-i.invariant.1 grows) _ c.in-Some.field-0.now c.in-Some.ensures.steps (rw c.loop-i.invariant.0.kind at c.regrow_one-x.ensures.grown))
+loop-i-preserved g c = (
+  same_loan_trans c.loop-i.invariant.0 c.regrow_one-x.ensures.same,
+  λ grows. regrowing_more grows (c.loop-i.invariant.1 grows) _ c.in-Some.field-0.now c.in-Some.ensures.steps (rw c.loop-i.invariant.0.kind at c.regrow_one-x.ensures.grown),
+)
 
 pub returns-clause-regrown : goal.returns-clause-regrown
 returns-clause-regrown g c = regrowing_end c.requires (c.loop-i.invariant.1 c.requires) c.in-None.ensures.steps.0
