@@ -1,7 +1,6 @@
 -- Reading and writing one place of a list.
 use Rattle.std.proofs.Common.{◌≡◌, ℕ, zero, suc, ◌<◌, ◌≤◌, ◌≢◌, List, [], ◌∷◌, length, set, Some, None, Option, refl, ap, arith}
 use Rattle.std.specs.List.{slice_get}
-pub use Rattle.std.proofs.lemmas.Option.{slice_get_within as some_in}
 
 pub none_past : {X : Type 0} (xs : List X) (i : ℕ) → slice_get xs i ≡ None → length xs ≤ i
 none_past [] i e = omega arith

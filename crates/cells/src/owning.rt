@@ -11,7 +11,7 @@ use crate::store::Store;
 use kinds::Kind;
 
 impl<K: Kind> Store<'_, K> {
-    // Writes the cell `i`.
+    // Writes the cell `i`. A method, since after other calls the bounds of a written index are left to be shown by hand.
     pub(crate) fn put(&mut self, i: u32, cell: Cell<K::Element, K::Summary>)
         requires { i < length self.old.cells.now }
         ensures same { SameLoan self.old self.new }

@@ -31,7 +31,7 @@ pub fn summary_at<K: Kind>(kind: &K, cells: &[Cell<K::Element, K::Summary>], i: 
 }
 
 impl<K: Kind> Store<'_, K> {
-    // The cell that `i` names, if any.
+    // The cell that `i` names, if any. A method, since the borrow checker covers no `get` on the cells behind a `&mut`.
     pub(crate) fn get(&self, i: u32) -> Option<Cell<K::Element, K::Summary>>
         ensures { slice_get self.now.cells.now i ≡ result }
     {

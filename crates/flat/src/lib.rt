@@ -14,6 +14,9 @@ pub use promises::{
     runs_stand,
 };
 
+// A track has at most so many elements.
+pub const MOST_ELEMENTS: u32 = 4095;
+
 // An edit or a copy wants this many cells free, whatever it then takes.
 pub const CELLS_WANTED: usize = 2048;
 

@@ -12,15 +12,23 @@ use crate::work::Work;
 use audio::Audio;
 use cells::{Cell, Store};
 use edits::{copy, extent_at};
+use faults::LIMIT;
+use flat::{MOST_ELEMENTS, enough_cells};
 use kinds::Kind;
 use reels::{Pcm, Reel};
 use tracks::{Piece, blank, lay_all};
 
 // What is told where nothing is done.
-const IDLE: Pace = Pace { sum: 0, free: 8192 };
+const IDLE: Pace = Pace {
+    sum: 0,
+    free: CELLS as u32,
+};
+
+// The cells that a run has.
+const CELLS: usize = 8192;
 
 // The most elements that a run is built of.
-const PIECES: u32 = 4096;
+const PIECES: usize = 4096;
 
 // The rounds of putting in, where the track has room for what is put in.
 fn puts_with<K: Kind>(store: &mut Store<'_, K>, root: u32, clip: u32, rounds: u32) -> u64
@@ -32,7 +40,7 @@ fn puts_with<K: Kind>(store: &mut Store<'_, K>, root: u32, clip: u32, rounds: u3
 {
     let elements = store.count_at(root) + store.count_at(clip);
     let extent = extent_at(store, root) + extent_at(store, clip);
-    if elements > 4095 || extent > 1073741824 {
+    if elements > MOST_ELEMENTS || extent > LIMIT {
         return 0;
     }
     puts(store, root, clip, rounds)
@@ -60,7 +68,7 @@ fn worked<K: Kind>(store: &mut Store<'_, K>, root: u32, work: Work, rounds: u32)
     ensures same { SameLoan store.old store.new }
     ensures rests { Rests (K.meaning store.old.kind.now) store.old.cells.now store.old.pool store.new.cells.now store.new.pool }
 {
-    if store.pool.free < 2048 || extent_at(store, root) == 0 {
+    if enough_cells(store.pool.free as usize).is_err() || extent_at(store, root) == 0 {
         return 0;
     }
     match work {
@@ -75,18 +83,18 @@ fn worked<K: Kind>(store: &mut Store<'_, K>, root: u32, work: Work, rounds: u32)
 fn paced(kind: &Audio<Pcm<'_>>, frames: u32, elements: u32, work: Work, rounds: u32) -> Pace
     ensures { result.free ≡ 8192 }
 {
-    if elements == 0 || elements > PIECES {
+    if elements == 0 || elements as usize > PIECES {
         return IDLE;
     }
     let width = frames / elements;
     let Ok(element) = kind.make(0, width) else {
         return IDLE;
     };
-    let mut cells = [blank(kind, element); 8192];
+    let mut cells = [blank(kind, element); CELLS];
     let mut pieces = [Piece {
         first: 0,
         second: width,
-    }; 4096];
+    }; PIECES];
     let pieces = &mut pieces[0..elements as usize];
     let mut first = 0u32;
     for piece in pieces.iter_mut() {

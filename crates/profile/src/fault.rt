@@ -5,7 +5,7 @@ use faults::{ReelFault, SessionFault};
 use std::alloc::{AllocError, AllocFailed};
 
 // Why there is no survey: the bytes are no reel, the numbers make no element, or memory is wanting.
-#[derive(Clone, Copy)]
+#[derive(Clone, Copy, PartialEq, Eq, Debug)]
 pub enum SurveyFault {
     Reel(ReelFault),
     Session(SessionFault),

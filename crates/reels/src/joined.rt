@@ -3,7 +3,8 @@ ghost use Rattle.reels.specs.Joined.{joined_first, joined_second};
 ghost use Rattle.reels.specs.Keeps.{joined_keeps};
 ghost use Rattle.reels.specs.Samples.{Copied, cut, stretch};
 
-use crate::reel::{MOST, Reel, fitting};
+use crate::reel::{Reel, fitting};
+use faults::LIMIT;
 
 // A layer over any two reels: the first followed by the second, ending at the limit.
 #[derive(Clone, Copy, Drop)]
@@ -27,11 +28,11 @@ impl<P: Reel, Q: Reel> Reel for Joined<P, Q> {
     ghost bounds = { λ s. joined_keeps (P.Reel.samples (joined_first s)) (Q.Reel.samples (joined_second s)) (P.Reel.bounds (joined_first s)) (Q.Reel.bounds (joined_second s)) };
 
     fn len(&self) -> u32 {
-        (self.first.len() + self.second.len()).min(MOST)
+        (self.first.len() + self.second.len()).min(LIMIT)
     }
 
     fn sample(&self, i: u32) -> Option<i16> {
-        if i >= MOST {
+        if i >= LIMIT {
             return None;
         }
         let before = self.first.len();

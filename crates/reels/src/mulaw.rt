@@ -3,8 +3,8 @@ ghost use Rattle.reels.specs.Keeps.{mulaw_keeps};
 ghost use Rattle.reels.specs.MuLaw.{decoded, inverted, sign, signed, size, mu_law_bytes, mu_law_samples, mu_law_refusal};
 ghost use Rattle.reels.specs.Samples.{Copied};
 
-use crate::reel::{MOST, Reel, fitting};
-use faults::ReelFault;
+use crate::reel::{Reel, fitting};
+use faults::{LIMIT, ReelFault};
 
 // The sample of each byte.
 const TABLE: [i16; 256] = [
@@ -47,7 +47,7 @@ impl<'a> MuLaw<'a> {
         ensures refusal { MatchResult result (λ _. mu_law_refusal bytes.now ≡ None) (λ f. mu_law_refusal bytes.now ≡ Some f) }
         ensures reel { IfOk result (λ p. (mu_law_bytes p ≡ bytes.now) × (mu_law_samples (mu_law_bytes p) ≡ map decoded bytes.now)) }
     {
-        if bytes.len() > MOST as usize {
+        if bytes.len() > LIMIT as usize {
             return Err(ReelFault::TooLong);
         }
         Ok(MuLaw { bytes })
@@ -61,7 +61,7 @@ impl<'a> Reel for MuLaw<'a> {
     ghost bounds = { λ s. mulaw_keeps (mu_law_bytes s) };
 
     fn len(&self) -> u32 {
-        self.bytes.len().min(MOST as usize) as u32
+        self.bytes.len().min(LIMIT as usize) as u32
     }
 
     fn sample(&self, i: u32) -> Option<i16> {

@@ -3,8 +3,8 @@ ghost use Rattle.reels.specs.Keeps.{pcm_keeps};
 ghost use Rattle.reels.specs.Pcm.{pairs, pcm_bytes, pcm_samples, pcm_refusal};
 ghost use Rattle.reels.specs.Samples.{Bounds, Copied};
 
-use crate::reel::{MOST, Reel, fitting};
-use faults::ReelFault;
+use crate::reel::{Reel, fitting};
+use faults::{LIMIT, ReelFault};
 
 // A reel of bytes in pairs, the low byte first.
 #[derive(Clone, Copy)]
@@ -21,7 +21,7 @@ impl<'a> Pcm<'a> {
         if bytes.len() % 2 != 0 {
             return Err(ReelFault::OddBytes);
         }
-        if bytes.len() > 2 * MOST as usize {
+        if bytes.len() > 2 * LIMIT as usize {
             return Err(ReelFault::TooLong);
         }
         Ok(Pcm { bytes })
@@ -35,7 +35,7 @@ impl<'a> Reel for Pcm<'a> {
     ghost bounds = { λ s. pcm_keeps (pcm_bytes s) };
 
     fn len(&self) -> u32 {
-        (self.bytes.len() / 2).min(MOST as usize) as u32
+        (self.bytes.len() / 2).min(LIMIT as usize) as u32
     }
 
     fn sample(&self, i: u32) -> Option<i16> {

@@ -2,9 +2,6 @@ ghost use Rattle.std.specs.Prelude.{◌≡◌, ◌-◌, min, List, length, ℤ};
 ghost use Rattle.std.specs.List.{slice_get};
 ghost use Rattle.reels.specs.Samples.{Bounds, Copied};
 
-// The most samples that a reel can have.
-pub(crate) const MOST: u32 = 1073741824;
-
 // A finite list of 16-bit samples, at most 1,073,741,824 of them. Every answer is about that list.
 pub trait Reel {
     ghost samples: { Self → List ℤ };

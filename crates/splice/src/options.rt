@@ -22,10 +22,10 @@ pub struct Chosen<'a> {
 }
 
 // What the words name, or none where help is asked for.
-pub fn parse(heap: Global, words: &[String]) -> anyhow::Result<Option<Options<'_>>>
+pub fn parse(alloc: Global, words: &[String]) -> anyhow::Result<Option<Options<'_>>>
     ensures { IfOk result (λ o. IfSome o (λ p. (1 ≤ p.chosen.shift.columns) × (p.chosen.shift.columns ≤ 200))) }
 {
-    let mut pieces = Vec::new(heap);
+    let mut pieces = Vec::new(alloc);
     let mut chosen = Chosen {
         first: None,
         second: None,

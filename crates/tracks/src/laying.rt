@@ -9,7 +9,8 @@ ghost use Rattle.tracks.specs.Laying.{no_room_fault, not_laid, Lays, Refuses, La
 use crate::piece::{Laid, Piece};
 use cells::{NONE, Store};
 use edits::{extent_at, insert};
-use faults::SessionFault;
+use faults::{LIMIT, SessionFault};
+use flat::{MOST_ELEMENTS, enough_cells};
 use kinds::Kind;
 
 // Whether anything stands against a list of such an extent and so many elements, with so many cells free before it is
@@ -19,16 +20,13 @@ pub(crate) fn room(extent: u32, elements: u32, free: u32) -> Result<(), SessionF
         (λ _. no_room_fault extent elements free ≡ None)
         (λ f. no_room_fault extent elements free ≡ Some f) }
 {
-    if extent > 1073741824 {
+    if extent > LIMIT {
         return Err(SessionFault::ExtentLimit);
     }
-    if elements > 4095 {
+    if elements > MOST_ELEMENTS {
         return Err(SessionFault::ElementLimit);
     }
-    if free < 2048 {
-        return Err(SessionFault::FewCells);
-    }
-    Ok(())
+    enough_cells(free as usize)
 }
 
 // Puts the element of a piece at the end of the list of `root`, which is given back; the new root is the caller's.

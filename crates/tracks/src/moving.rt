@@ -10,6 +10,7 @@ use crate::laying::room;
 use cells::Store;
 use edits::{Removal, cut, extent_at, put};
 use faults::SessionFault;
+use flat::CELLS_WANTED;
 use kinds::Kind;
 
 // Takes a range out of the list of `root`, which stays. How many elements would be left is known only once they are, so
@@ -70,7 +71,7 @@ pub fn put_in<K: Kind>(
     }
     let extent = end + extent_at(store, clip);
     let elements = store.count_at(root).saturating_add(more);
-    room(extent, elements, 2048)?;
+    room(extent, elements, CELLS_WANTED as u32)?;
     let free = store.pool.free;
     let r = put(store, root, place, clip);
     if let Err(fault) = room(0, store.count_at(r), free) {

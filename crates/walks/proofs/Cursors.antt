@@ -20,7 +20,7 @@ use Rattle.balance.proofs.Edits.{rest_listed}
 use Rattle.balance.proofs.Loops.{rest_walked, walked_span}
 use Rattle.cells.specs.declared.cell.Cell.{Cell}
 use Rattle.cells.specs.Cells.{shape, counted, cell_count, tree, Live, Sound}
-use Rattle.cells.proofs.Lists.{some_in}
+use Rattle.std.proofs.lemmas.Option.{slice_get_within}
 use Rattle.walks.specs.declared.answers.Found.{Found as Answer}
 use Rattle.walks.specs.declared.cursor.Cursor.{Cursor}
 use Rattle.walks.specs.Nesting.{Nested, from_own, pending}
@@ -215,7 +215,7 @@ module _ {E A S : Type 0} {k : Meaning E A S} (laws : Laws k) {cells : List (Cel
     nested_here = subst (λ is. Nested cells (most + 1) is ready.spare) filled ready.nested
 
     pub ready_named : here_cell < length cells
-    ready_named = let top_used = nested_last cells (most + 1) below here_cell ready.spare nested_here in some_in cells here_cell top_used.cell top_used.at
+    ready_named = let top_used = nested_last cells (most + 1) below here_cell ready.spare nested_here in slice_get_within cells here_cell top_used.cell top_used.at
 
     module _ {c : Cell E S} (at : slice_get cells here_cell ≡ Some c) where
       pub ready_live : 0 < c.refs

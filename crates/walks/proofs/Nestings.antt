@@ -7,7 +7,7 @@ use Rattle.balance.specs.Levels.{Levels, most, deepest}
 use Rattle.balance.proofs.Levels.{levels_none, levels_more, levels_wider, levels_narrower, levels_few}
 use Rattle.cells.specs.declared.cell.Cell.{Cell}
 use Rattle.cells.specs.Cells.{shape, counted, cell_count, tree, linked, Live, Sound}
-use Rattle.cells.proofs.Lists.{some_in}
+use Rattle.std.proofs.lemmas.Option.{slice_get_within}
 use Rattle.cells.proofs.Trees.{none_tree, opened}
 use Rattle.walks.specs.Nesting.{Nested, from_own, pending}
 use Rattle.walks.specs.Spines.{Spine}
@@ -123,7 +123,7 @@ module _ {E A S : Type 0} {k : Meaning E A S} {cells : List (Cell E S)} (sound :
       where
         step : (o : Option (Cell E S)) → slice_get cells cell ≡ o → cell < length cells
         step None is = absurd (omega (arith, ap counted is))
-        step (Some c) is = some_in cells cell c is
+        step (Some c) is = slice_get_within cells cell c is
 
     pub spine_end : cell_count cells cell ≡ 0 → Spine cells old link table n
     spine_end empty = record {

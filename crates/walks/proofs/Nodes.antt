@@ -7,7 +7,7 @@ use Rattle.balance.specs.Trees.{node, elements}
 use Rattle.balance.specs.Ways.{span}
 use Rattle.cells.specs.declared.cell.Cell.{Cell}
 use Rattle.cells.specs.Cells.{shape, counted, cell_count, tree, meant, linked, Live, Good, Sound}
-use Rattle.cells.proofs.Lists.{some_in}
+use Rattle.std.proofs.lemmas.Option.{slice_get_within}
 use Rattle.cells.proofs.Trees.{opened, none_tree}
 
 module _ {E A S : Type 0} (k : Meaning E A S) (cells : List (Cell E S)) (sound : Sound k cells) where
@@ -17,7 +17,7 @@ module _ {E A S : Type 0} (k : Meaning E A S) (cells : List (Cell E S)) (sound :
     where
       step : (o : Option (Cell E S)) → slice_get cells i ≡ o → i < length cells
       step None is = absurd (omega (arith, ap (span (shape k)) (none_tree cells i is)))
-      step (Some c) is = some_in cells i c is
+      step (Some c) is = slice_get_within cells i c is
 
 module _ {E A S : Type 0} {k : Meaning E A S} {cells : List (Cell E S)} (sound : Sound k cells) where
   module _ (i : ℕ) {c : Cell E S} (at : slice_get cells i ≡ Some c) (live : Live cells i) where

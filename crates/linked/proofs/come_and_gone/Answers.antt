@@ -1,4 +1,4 @@
-use Rattle.std.proofs.Common.{◌≡◌, [], length, rules, arith, ◌∙◌}
+use Rattle.std.proofs.Common.{[], arith, ◌∙◌}
 use Rattle.linked.proofs.Lives.{first, second, last}
 use Rattle.linked.proofs.come_and_gone.Goals as goal
 
@@ -30,6 +30,5 @@ returns g c =
     let linked = rw (c.make-one.ensures.same.kind, c.start-store.ensures.kind) at c.link-two.ensures.yields in
     let released = rw (c.link-two.ensures.same.kind, c.make-one.ensures.same.kind, c.start-store.ensures.kind) at c.release.ensures.releases in
     let l = last (c.of-item.ensures.whole c.requires.lawful) c.of-item.ensures.element c.requires.short 4294967295 (omega arith) start (omega (arith, c.start-store.ensures.free, c.requires.size.0)) made linked in
-    let lent = c.release.ensures.same.cells ∙ c.link-two.ensures.same.cells ∙ c.make-one.ensures.same.cells ∙ c.start-store.ensures.lent in
-    let long : length c.release.new.self.cells.now ≡ length c.args.cells.now = search rules in
+    let long = c.release.ensures.same.size ∙ c.link-two.ensures.same.size ∙ c.make-one.ensures.same.size ∙ c.start-store.ensures.size in
     omega (arith, c.free.ensures.0, l.all _ _ released)

@@ -17,7 +17,7 @@ overflow_add-extent g c = omega (arith, c.extent_at.ensures, c.extent_at-2.ensur
 pub puts-requires : goal.puts-requires
 puts-requires g c = record {
   owns = c.requires.owns;
-  few = omega (arith, c.if-elements-gt4095.false, c.count_at.ensures, c.count_at-2.ensures, lent_count c.requires.owns, lent_count (lent_less c.requires.owns));
-  short = omega (arith, c.if-extent-gt1073741824.false, c.extent_at.ensures, c.extent_at-2.ensures);
+  few = omega (arith, c.if-elements-gt-MOST_ELEMENTS.false, c.count_at.ensures, c.count_at-2.ensures, lent_count c.requires.owns, lent_count (lent_less c.requires.owns));
+  short = omega (arith, c.if-extent-gt-LIMIT.false, c.extent_at.ensures, c.extent_at-2.ensures);
   some = c.requires.some;
 }

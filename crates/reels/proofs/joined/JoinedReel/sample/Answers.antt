@@ -3,8 +3,8 @@ use Rattle.std.proofs.lemmas.Option.{slice_get_past}
 use Rattle.reels.proofs.Lists.{length_cut, joined_front, joined_back}
 use Rattle.reels.proofs.joined.JoinedReel.sample.Goals as goal
 
-pub returns-then-i-ge-MOST : goal.returns-then-i-ge-MOST
-returns-then-i-ge-MOST g c = sym (slice_get_past _ c.args.i (rw length_cut (omega arith)))
+pub returns-then-i-ge-LIMIT : goal.returns-then-i-ge-LIMIT
+returns-then-i-ge-LIMIT g c = sym (slice_get_past _ c.args.i (rw length_cut (omega arith)))
 
 pub returns-then-i-before : goal.returns-then-i-before
 returns-then-i-before g c =
