@@ -14,5 +14,6 @@ pub struct Cell<E, S> {
     pub refs: u32,
 }
 
-// The link that names no cell: the root of an empty tree. No session has so many cells.
+// The link that names no cell: the root of an empty tree. No session has so many cells. It is a number and no Option, since
+// cells are lent with any content: a link may always name no cell, and one test of its range tells both.
 pub const NONE: u32 = u32::MAX;

@@ -18,4 +18,5 @@ pub use item::Item;
 pub use path::Path;
 pub use pool::Pool;
 pub use read::{cell_at, count_at, summary_at};
+pub use releasing::free;
 pub use store::Store;

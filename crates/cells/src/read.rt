@@ -1,4 +1,5 @@
-// Reading a cell, and what a link tells: of none the count is 0 and the summary empty.
+// Reading a cell, and what a link tells: of none the count is 0 and the summary empty. Over a slice, since who only looks
+// has no store, and over a store.
 ghost use Rattle.std.specs.Prelude.{◌≡◌, ◌<◌, length, Some};
 ghost use Rattle.std.specs.List.{slice_get};
 ghost use Rattle.cells.specs.Cells.{cell_count, sum_at};

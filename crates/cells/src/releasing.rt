@@ -6,7 +6,9 @@ ghost use Rattle.cells.specs.References.{Arena, NoneLost, Owned};
 ghost use Rattle.cells.specs.Lent.{SameLoan};
 ghost use Rattle.cells.specs.Moves.{Releases};
 
+use crate::cell::Cell;
 use crate::path::Path;
+use crate::pool::Pool;
 use crate::store::Store;
 use kinds::Kind;
 
@@ -34,6 +36,14 @@ impl<K: Kind> Store<'_, K> {
         ensures { (result ≡ self.now.pool.free) × ((rs : List ℕ) → Arena (K.meaning self.now.kind.now) self.now.cells.now self.now.pool rs
             → NoneLost (K.meaning self.now.kind.now) self.now.cells.now self.now.pool rs) }
     {
-        self.pool.free
+        free(self.kind, self.cells, &self.pool)
     }
+}
+
+// The same of a slice and a pool, for whoever only reads the cells.
+pub fn free<K: Kind>(kind: &K, cells: &[Cell<K::Element, K::Summary>], pool: &Pool) -> u32
+    ensures { (result ≡ pool.now.free) × ((rs : List ℕ) → Arena (K.meaning kind.now) cells.now pool.now rs
+        → NoneLost (K.meaning kind.now) cells.now pool.now rs) }
+{
+    pool.free
 }

@@ -1,5 +1,6 @@
 // Cells as they are, or seen in a mirror: only these functions look at `flip`. It is a bool because near, far and seen of
-// the specs are over one: an enum would be translated in every clause.
+// the specs are over one: an enum would be translated in every clause. Two trees and the item between them stay three
+// parameters: as a struct they would be taken apart in every clause.
 ghost use Rattle.std.specs.Prelude.{◌≡◌, ◌+◌, ◌<◌, [], ◌∷◌};
 ghost use Rattle.balance.specs.Trees.{node};
 ghost use Rattle.cells.specs.Cells.{seen, near, far};

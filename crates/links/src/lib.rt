@@ -1,5 +1,6 @@
 // Linking in cells: two trees and an item between them become one balanced tree, by loops over a path of cell numbers.
-// Each step is written once, for trees as they are and for their mirror images.
+// Each step is written once, for trees as they are and for their mirror images. They are functions over a store, since a
+// crate adds no methods to the type of another.
 #![tactic(auto)]
 
 mod climbing;

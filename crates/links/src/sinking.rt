@@ -10,8 +10,8 @@ use balance::outweighs;
 use cells::{Path, Store};
 use kinds::Kind;
 
-// Down from the tree of `right` while it outweighs that of `left`. The path takes the cells that are passed; the answer is
-// the first that can stand beside.
+// Down from the tree of `right` while it outweighs that of `left`. The path has then just the cells that are passed; the
+// answer is the first that can stand beside.
 pub fn sink<K: Kind>(
     store: &Store<'_, K>,
     flip: bool,
@@ -19,13 +19,13 @@ pub fn sink<K: Kind>(
     right: u32,
     path: &mut Path,
 ) -> u32
-    requires empty { path.old.items ≡ [] }
     requires sound { Sound (K.meaning store.now.kind.now) store.now.cells.now }
     requires live { Live store.now.cells.now left × Live store.now.cells.now right }
     requires few { (cell_count store.now.cells.now left ≤ most) × (cell_count store.now.cells.now right ≤ most) }
     requires deep { length (spine (seen flip store.now.cells.now left) (seen flip store.now.cells.now right)) ≤ deepest }
     ensures { Sunk (K.meaning store.now.kind.now) flip store.now.cells.now (seen flip store.now.cells.now left) right path.new.items result }
 {
+    path.clear();
     let light = store.count_at(left) + 1;
     let mut x = right;
     while outweighs(store.count_at(x) + 1, light) {

@@ -61,7 +61,7 @@ fn with_clip<K: Kind>(store: &mut Store<'_, K>, root: u32, rounds: u32) -> u64
     sum
 }
 
-// The rounds of one kind of work.
+// The rounds of one kind of work. C names it by a number, so no closure comes in.
 fn worked<K: Kind>(store: &mut Store<'_, K>, root: u32, work: Work, rounds: u32) -> u64
     requires owns { Owns (K.meaning store.old.kind.now) store.old.cells.now store.old.pool [] (root ∷ []) (2 ^ 14) }
     requires few { length (list store.old.cells.now root) ≤ element_limit }
@@ -90,6 +90,7 @@ fn paced(kind: &Audio<Pcm<'_>>, frames: u32, elements: u32, work: Work, rounds: 
     let Ok(element) = kind.make(0, width) else {
         return IDLE;
     };
+    // Fixed memory: no heap is asked, and C lends none.
     let mut cells = [blank(kind, element); CELLS];
     let mut pieces = [Piece {
         first: 0,

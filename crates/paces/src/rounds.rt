@@ -97,10 +97,13 @@ pub(crate) fn reads<K: Kind>(store: &Store<'_, K>, root: u32, rounds: u32) -> u6
     requires sound { Sound (K.meaning store.now.kind.now) store.now.cells.now }
     requires live { Live store.now.cells.now root }
     requires few { cell_count store.now.cells.now root ≤ most }
-    requires some { 1 ≤ extent_of (K.meaning store.now.kind.now) (list store.now.cells.now root) }
-    ensures { result ≡ offsets (K.meaning store.now.kind.now) (list store.now.cells.now root) rounds }
+    ensures { 1 ≤ extent_of (K.meaning store.now.kind.now) (list store.now.cells.now root) → result ≡ offsets (K.meaning store.now.kind.now) (list store.now.cells.now root) rounds }
 {
-    let end = extent_at(store, root) - 1;
+    let extent = extent_at(store, root);
+    if extent == 0 {
+        return 0;
+    }
+    let end = extent - 1;
     let view = View::of(store, root);
     let mut places = Places::new();
     let mut sum = 0u64;
@@ -115,10 +118,13 @@ pub(crate) fn reads<K: Kind>(store: &Store<'_, K>, root: u32, rounds: u32) -> u6
 pub(crate) fn overviews<K: Kind>(store: &Store<'_, K>, root: u32, rounds: u32) -> u64
     requires sound { Sound (K.meaning store.now.kind.now) store.now.cells.now }
     requires live { Live store.now.cells.now root }
-    requires some { 1 ≤ extent_of (K.meaning store.now.kind.now) (list store.now.cells.now root) }
-    ensures { result ≡ lengths (K.meaning store.now.kind.now) (list store.now.cells.now root) rounds }
+    ensures { 1 ≤ extent_of (K.meaning store.now.kind.now) (list store.now.cells.now root) → result ≡ lengths (K.meaning store.now.kind.now) (list store.now.cells.now root) rounds }
 {
-    let end = extent_at(store, root) - 1;
+    let extent = extent_at(store, root);
+    if extent == 0 {
+        return 0;
+    }
+    let end = extent - 1;
     let view = View::of(store, root);
     let mut places = Places::new();
     let mut sum = 0u64;

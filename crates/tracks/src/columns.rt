@@ -7,29 +7,54 @@ ghost use Rattle.splits.specs.Owning.{Owns};
 ghost use Rattle.profile.specs.Columns.{column, between};
 ghost use Rattle.edits.specs.Edits.{list};
 
-use cells::Store;
-use edits::extent_at;
+use cells::{Cell, Pool, Store};
 use kinds::Kind;
 use profile::in_columns;
 use std::alloc::{AllocError, Global};
 use walks::View;
 
-// The summary of the atoms of a track from one place to another.
-pub fn stretch<K: Kind>(store: &Store<'_, K>, root: u32, from: u32, to: u32) -> K::Summary
-    requires owns { Owns (K.meaning store.now.kind.now) store.now.cells.now store.now.pool [] (root ∷ []) (2 ^ 16) }
+// The summary of the atoms of a track from one place to another: of a tree, by an overview, as profile has it of an element,
+// by a part. A slice and a pool, and no store, for whoever only reads cells.
+pub fn stretch<K: Kind>(
+    kind: &K,
+    cells: &[Cell<K::Element, K::Summary>],
+    pool: &Pool,
+    root: u32,
+    from: u32,
+    to: u32,
+) -> K::Summary
+    requires owns { Owns (K.meaning kind.now) cells.now pool.now [] (root ∷ []) (2 ^ 16) }
     requires order { from ≤ to }
-    requires inside { to ≤ extent_of (K.meaning store.now.kind.now) (list store.now.cells.now root) }
-    ensures { result ≡ between (K.meaning store.now.kind.now) (atoms_of (K.meaning store.now.kind.now) (list store.now.cells.now root)) from to }
+    requires inside { to ≤ extent_of (K.meaning kind.now) (list cells.now root) }
+    ensures { result ≡ between (K.meaning kind.now) (atoms_of (K.meaning kind.now) (list cells.now root)) from to }
 {
     if from == to {
-        store.kind.empty()
+        kind.empty()
     } else {
-        View::of(store, root).overview(from, to - from)
+        View::new(kind, cells, root).overview(from, to - from)
     }
 }
 
 // The summaries of n columns of a track, as equal as there can be.
 pub fn columns_of<K: Kind>(
+    alloc: Global,
+    kind: &K,
+    cells: &[Cell<K::Element, K::Summary>],
+    pool: &Pool,
+    root: u32,
+    n: u32,
+) -> Result<Vec<K::Summary>, AllocError>
+    requires { Owns (K.meaning kind.now) cells.now pool.now [] (root ∷ []) (2 ^ 16) }
+    ensures { IfOk result (λ v. v.items ≡ map (column (K.meaning kind.now) (atoms_of (K.meaning kind.now) (list cells.now root)) n) (range_with_len 0 n)) }
+{
+    let extent = View::new(kind, cells, root).width();
+    in_columns(alloc, extent, n, |from, to| {
+        stretch(kind, cells, pool, root, from, to)
+    })
+}
+
+// The same, of a track in a store.
+pub(crate) fn columns_in<K: Kind>(
     alloc: Global,
     store: &Store<'_, K>,
     root: u32,
@@ -38,8 +63,5 @@ pub fn columns_of<K: Kind>(
     requires { Owns (K.meaning store.now.kind.now) store.now.cells.now store.now.pool [] (root ∷ []) (2 ^ 16) }
     ensures { IfOk result (λ v. v.items ≡ map (column (K.meaning store.now.kind.now) (atoms_of (K.meaning store.now.kind.now) (list store.now.cells.now root)) n) (range_with_len 0 n)) }
 {
-    let extent = extent_at(store, root);
-    in_columns(alloc, extent, n, |from, to| {
-        stretch(store, root, from, to)
-    })
+    columns_of(alloc, store.kind, store.cells, &store.pool, root, n)
 }

@@ -38,6 +38,7 @@ pub fn take_out<K: Kind>(
     }
     let free = store.pool.free;
     let r = cut(store, root, from, len);
+    // The extent has not grown.
     if let Err(fault) = room(0, store.count_at(r.left), free) {
         store.release(r.left);
         store.release(r.taken);
@@ -71,6 +72,7 @@ pub fn put_in<K: Kind>(
     }
     let extent = end + extent_at(store, clip);
     let elements = store.count_at(root).saturating_add(more);
+    // Free cells are told last, once the number of elements is known.
     room(extent, elements, CELLS_WANTED as u32)?;
     let free = store.pool.free;
     let r = put(store, root, place, clip);

@@ -8,7 +8,7 @@ ghost use Rattle.flat.specs.Refusals.{cells_outside, fewest_cells};
 ghost use Rattle.edits.specs.Edits.{list};
 ghost use Rattle.tracks.specs.Moving.{Stops, NotRearranged, roots, Held, Kept, Tells, Rearranges};
 
-use crate::columns::columns_of;
+use crate::columns::columns_in;
 use crate::laying::lay_all;
 use crate::moving::{put_in, take_out};
 use crate::piece::Piece;
@@ -21,6 +21,11 @@ use kinds::Kind;
 use profile::SurveyFault;
 use std::alloc::Global;
 
+// So many cells can be lent.
+const FEWEST_CELLS: usize = 4096;
+
+const MOST_CELLS: usize = 65535;
+
 // A store of the cells, if they are not too few or too many.
 fn open<'a, K: Kind>(
     kind: &'a K,
@@ -31,7 +36,7 @@ fn open<'a, K: Kind>(
         (λ f. cells_outside (length cells.old) ≡ Some f) }
 {
     let size = cells.len();
-    if size < 4096 || size > 65535 {
+    if !(FEWEST_CELLS..=MOST_CELLS).contains(&size) {
         return Err(SessionFault::CellsOutside);
     }
     Ok(Store::start(kind, cells))
@@ -113,7 +118,7 @@ pub fn rearrange<K: Kind>(
 {
     let mut store = open(kind, cells)?;
     let v = keep(&mut store, pieces, shift)?;
-    let columns = columns_of(alloc, &store, v.moved.root, shift.columns)?;
+    let columns = columns_in(alloc, &store, v.moved.root, shift.columns)?;
     let laid = version_of(&store, v.laid);
     let cut = version_of(&store, v.left);
     let moved = version_of(&store, v.moved);

@@ -24,7 +24,7 @@ pub struct Located {
 }
 
 // The cell at which a range parts, some of it at the cell's own element or on both sides; and where in the tree under the
-// cell the range begins.
+// cell the range begins: no `Found`, whose offset lies in the element.
 #[derive(Clone, Copy)]
 pub struct Fork {
     pub cell: u32,

@@ -1,4 +1,5 @@
-// The walk to a place, which all that reads or changes a tree begins with.
+// The walk to a place, which all that reads or changes a tree begins with. The walks to a tally and to the ends of a range
+// take the same three ways at a cell, but each keeps something else on its way.
 ghost use Rattle.std.specs.Prelude.{◌≡◌, ◌+◌, ◌<◌, ◌≤◌, length};
 ghost use Rattle.balance.specs.Ways.{span};
 ghost use Rattle.balance.specs.Levels.{most};

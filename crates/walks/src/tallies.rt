@@ -47,6 +47,7 @@ impl<'a, K: Tally> View<'a, K> {
         let mut cell = self.root;
         let mut rest = t;
         let mut base = 0;
+        // Counted on the way: a path would be kept for its length alone.
         let mut count = 0;
         loop {
             let c = cell_at(self.cells, cell);

@@ -2,7 +2,7 @@ use Rattle.links.proofs.Sinks.{sinking_start, x_inside, lighter, sinking_more, s
 use Rattle.links.proofs.sinking.sink.Goals as goal
 
 pub loop-path-init : goal.loop-path-init
-loop-path-init g c = sinking_start c.args.flip c.requires.sound c.args.left c.requires.live.0 c.args.right c.requires.live.1 c.requires.few.1 c.requires.empty
+loop-path-init g c = sinking_start c.args.flip c.requires.sound c.args.left c.requires.live.0 c.args.right c.requires.live.1 c.requires.few.1 c.clear.ensures
 
 pub cell_at-requires : goal.cell_at-requires
 cell_at-requires g c = x_inside c.args.flip c.requires.sound c.args.left c.requires.live.0 c.args.right c.requires.deep c.loop-path.invariant c.count_at-light.ensures c.count_at.ensures c.outweighs.ensures c.loop-path-test.true

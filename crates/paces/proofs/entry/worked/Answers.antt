@@ -10,8 +10,7 @@ reads-requires g c = record {
   sound = c.requires.owns.arena.sound;
   live = lent_live c.requires.owns;
   few = omega (arith, c.requires.few, lent_count c.requires.owns);
-  some = omega (arith, c.extent_at.ensures);
 }
 
 pub overviews-requires : goal.overviews-requires
-overviews-requires g c = record { sound = c.requires.owns.arena.sound; live = lent_live c.requires.owns; some = omega (arith, c.extent_at.ensures) }
+overviews-requires g c = record { sound = c.requires.owns.arena.sound; live = lent_live c.requires.owns }
