@@ -13,9 +13,9 @@ use Rattle.cells.specs.Reach.{child, follow, Alike, Stays, Reached}
 use Rattle.cells.specs.References.{Arena, Holds}
 use Rattle.cells.specs.Moves.{Moves, Makes}
 use Rattle.cells.proofs.Lists.{none_past}
-use Rattle.cells.proofs.Staying.{follow_more, stays_trans, follow_same}
+use Rattle.cells.proofs.Staying.{follow_more, stays_refl, stays_trans, follow_same}
 use Rattle.cells.proofs.Names.{hit_same}
-use Rattle.cells.proofs.Moving.{moves_then, seen_stays}
+use Rattle.cells.proofs.Moving.{moves_none, moves_then, seen_stays}
 use Rattle.links.specs.Sitting.{Sits}
 use Rattle.links.specs.Climbing.{raised, descent, climbed, Tabled, Climbs, Above, Raises}
 
@@ -139,8 +139,20 @@ module _ {E A S : Type 0} {k : Meaning E A S} {flip : Bool} {a : List (Cell E S)
       let z : get_or path m i ≡ get_or path m 0 = get_or_default_zero path m i (omega (arith, climbing.left)) in
       turn_at i m (omega (arith, climbing.left)) (at.1 ∙ get_or-reverse path passed i h ∙ ap (λ j. get_or path j i) e ∙ z)
 
-  pub climbing_end : passed ≡ length (reverse path) → Raises k flip a p low top b q x (climbed flip a top (length path) (seen flip a low)) (3 * length path)
-  climbing_end all =
+module _ {E A S : Type 0} {k : Meaning E A S} {flip : Bool} {a : List (Cell E S)} {p : Pool} {low top : ℕ} {path : List ℕ} where
+  pub climbing_start : Climbs k flip a top (length path) (seen flip a low) → Climbing k flip a p low top path a p low 0
+  climbing_start sits = record {
+    n = length path;
+    left = omega arith;
+    each = let e : 0 ≡ 3 * 0 = omega arith in subst (λ n. Moves k a p (low ∷ top ∷ []) a p (low ∷ top ∷ []) n) e (moves_none k a p (low ∷ top ∷ []));
+    stays = stays_refl a top;
+    same = refl;
+    sits = sits;
+  }
+
+  pub climbing_end : {b : List (Cell E S)} {q : Pool} {x passed : ℕ} → Climbing k flip a p low top path b q x passed → passed ≡ length (reverse path)
+      → Raises k flip a p low top b q x (climbed flip a top (length path) (seen flip a low)) (3 * length path)
+  climbing_end {b} {q} {x} {passed} climbing all =
       let l = length-reverse path in
       let z : climbing.n ≡ 0 = omega (arith, climbing.left) in
       let cost : 3 * passed ≡ 3 * length path = omega arith in

@@ -69,6 +69,9 @@ module _ {E A S : Type 0} {k : Meaning E A S} (flip : Bool) {a : List (Cell E S)
   pub deep : length (spine L R) ≤ deepest
   deep = omega (arith, right_cost L R heavy, link_cost_lem L R x_balanced y_balanced (omega (arith, linkable.few)) (omega (arith, linkable.few)))
 
+  pub room : Holds k a p [] (2 ^ 30)
+  room = record { rest = x ∷ y ∷ holds.rest; arena = holds.arena; few = omega (arith, holds.few) }
+
   module _ {path : List ℕ} {f : ℕ} (sunk : Sunk k flip a L y path f) where
     abbrev n : ℕ
     n = length path

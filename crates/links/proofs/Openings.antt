@@ -34,11 +34,14 @@ module _ {E A S : Type 0} {k : Meaning E A S} (flip : Bool) {a : List (Cell E S)
   good : Good k a i c
   good = holds.arena.sound i c at live
 
+  pub room : Holds k a p [] (2 ^ 30)
+  room = record { rest = i ∷ holds.rest; arena = holds.arena; few = omega (arith, holds.few) }
+
   pub near_alive : {x : ℕ} → x ≡ near flip c → Live a x
   near_alive e = subst (Live a) (sym e) (near_live k flip a i c good)
 
   module _ {x : ℕ} {b : List (Cell E S)} (one : Retains k a x b) where
-    held : Arena k b p (x ∷ i ∷ holds.rest)
+    pub held : Arena k b p (x ∷ i ∷ holds.rest)
     held = (one.each p (i ∷ holds.rest) holds.arena).arena
 
     here_stays : Stays a b i

@@ -37,6 +37,9 @@ module _ {E A S : Type 0} {k : Meaning E A S} (flip : Bool) {a : List (Cell E S)
   pub far_alive : {y : ℕ} → y ≡ far flip c → Live a y
   far_alive e = subst (Live a) (sym e) (far_live k flip a i c good)
 
+  pub above_room : Holds k a p [] (2 ^ 30)
+  above_room = record { rest = low ∷ above.rest; arena = above.arena; few = omega (arith, above.few) }
+
   pub passed_whole : {item : Item E S} → item ≡ record { element = c.element; own = c.own } → Whole k item
   passed_whole e = subst (Whole k) (sym e) (record { lawful = good.lawful; owns = good.owns })
 

@@ -55,6 +55,9 @@ module _ {E A S : Type 0} {k : Meaning E A S} (flip : Bool) {a : List (Cell E S)
   })
 
   module _ (deep : length (spine L (seen flip a top)) ≤ deepest) {path : List ℕ} {x : ℕ} (sinking : Sinking k flip a L top path x) where
+    pub row : length path < 64
+    row = omega (arith, deep, sinking.spine_is)
+
     x_counts : count (seen flip a x) ≡ cell_count a x
     x_counts = seen_known k flip a sound x sinking.live
 

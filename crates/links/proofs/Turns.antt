@@ -137,6 +137,9 @@ module _ {E A S : Type 0} {k : Meaning E A S} (flip : Bool) {a : List (Cell E S)
   pub right_fits : cell_count a z + 1 < 2 ^ 32
   right_fits = omega (arith, r_counts, all_count)
 
+  pub heavy_holds : Holds k a p (x ∷ []) (2 ^ 29)
+  heavy_holds = record { rest = z ∷ holds.rest; arena = holds.arena; few = omega (arith, holds.few) }
+
   module _ {heavy light : ℕ} (heavy_of : heavy ≡ cell_count a x) (light_of : light ≡ cell_count a z) {too : Bool} (test : too ≡ ltb (Δ * (light + 1)) (heavy + 1)) where
     weighs : too ≡ ltb (Δ * weight R) (weight L)
     weighs =

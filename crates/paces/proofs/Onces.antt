@@ -47,7 +47,7 @@ module _ {E A S : Type 0} {k : Meaning E A S} {a : List (Cell E S)} {p : Pool} {
 
   -- a range is cut out, and both lists are given back
   module _ (root from len : ℕ) (few : length (list a root) ≤ element_limit) {b : List (Cell E S)} {q : Pool} {r : Removal} (cuts : Cuts k a p b q r (list a root) from len edit_takes) where
-    cut_arena : Arena k b q (r.left ∷ (r.taken ∷ owns.rest))
+    pub cut_arena : Arena k b q (r.left ∷ (r.taken ∷ owns.rest))
     cut_arena = (cuts.each owns.rest owns.arena).arena
 
     pub left_owned : (ys : List ℕ) × Arena k b q (r.left ∷ ys)
@@ -63,7 +63,7 @@ module _ {E A S : Type 0} {k : Meaning E A S} {a : List (Cell E S)} {p : Pool} {
       to_c : Moves k a p [] c o (r.taken ∷ []) (edit_takes + 0)
       to_c = moves_then k a p [] b q (r.left ∷ r.taken ∷ []) edit_takes cuts.each (r.left ∷ []) (r.taken ∷ []) (λ i. omega arith) c o [] 0 (λ rs ar. (drop rs ar).moved) (r.taken ∷ []) (λ i. omega arith)
 
-      taken_arena : Arena k c o (r.taken ∷ owns.rest)
+      pub taken_arena : Arena k c o (r.taken ∷ owns.rest)
       taken_arena = (to_c owns.rest owns.arena).arena
 
       pub taken_owned : (ys : List ℕ) × Arena k c o (r.taken ∷ ys)
@@ -125,7 +125,7 @@ module _ {E A S : Type 0} {k : Meaning E A S} {a : List (Cell E S)} {p : Pool} {
   clip_some = omega (arith, some, copied.free)
 
   module _ {c : List (Cell E S)} {o : Pool} (rests : Rests k b q c o) where
-    clip_arena : Arena k c o (clip ∷ owns.rest)
+    pub clip_arena : Arena k c o (clip ∷ owns.rest)
     clip_arena = (rests (clip ∷ owns.rest) copied.arena).arena
 
     pub clip_owned : (ys : List ℕ) × Arena k c o (clip ∷ ys)

@@ -1,5 +1,5 @@
 -- Samples as bytes, two each, the low byte first.
-use Rattle.std.proofs.Common.{◌≡◌, ℕ, ◌+◌, ◌-◌, ◌*◌, ◌/◌, ◌%◌, ◌<◌, ◌≤◌, min, List, [], ◌∷◌, ◌++◌, length, get_or, take, drop, set, ℤ, pos, negsuc, sym, refl, ap, ◌∙◌, arith, length-append, length-drop, length-take, w16, SFits, of_z}
+use Rattle.std.proofs.Common.{◌≡◌, ℕ, zero, suc, ◌+◌, ◌-◌, ◌*◌, ◌/◌, ◌%◌, ◌<◌, ◌≤◌, min, List, [], ◌∷◌, ◌++◌, length, get_or, take, drop, set, ℤ, pos, negsuc, sym, refl, ap, ◌∙◌, arith, length-append, length-drop, length-take, w16, SFits, of_z}
 use Rattle.std.proofs.lemmas.List.{append-nil, append_assoc, take_at, drop_at, drop_all, drop-drop, take_more, take_rest}
 use borrow.Rule.Slice.PartMut.{put_mid}
 use Rattle.reels.specs.Samples.{WrittenBlock, bytes_of, stretch}
@@ -13,6 +13,12 @@ length_bytes (x ∷ xs) = let h = length_bytes xs in omega arith
 pub bytes_append : (xs ys : List ℤ) → bytes_of (xs ++ ys) ≡ bytes_of xs ++ bytes_of ys
 bytes_append [] ys = refl
 bytes_append (x ∷ xs) ys = ap (λ v. of_z w16 x % 256 ∷ of_z w16 x / 256 ∷ v) (bytes_append xs ys)
+
+-- the bytes of the first samples are the first bytes
+pub bytes_take : (i : ℕ) (xs : List ℤ) → take (2 * i) (bytes_of xs) ≡ bytes_of (take i xs)
+bytes_take zero xs = refl
+bytes_take (suc i) [] = let e : 2 * suc i ≡ suc (suc (2 * i)) = omega arith in rw e refl
+bytes_take (suc i) (x ∷ xs) = let e : 2 * suc i ≡ suc (suc (2 * i)) = omega arith in rw e (ap (λ v. of_z w16 x % 256 ∷ of_z w16 x / 256 ∷ v) (bytes_take i xs))
 
 -- one sample more
 pub bytes_more : (xs : List ℤ) (i : ℕ) → i < length xs → bytes_of (take (i + 1) xs) ≡ bytes_of (take i xs) ++ of_z w16 (get_or xs i (pos 0)) % 256 ∷ of_z w16 (get_or xs i (pos 0)) / 256 ∷ []

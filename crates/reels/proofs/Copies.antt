@@ -1,11 +1,12 @@
 -- What is common to all bulk copies of a stretch of samples.
-use Rattle.std.proofs.Common.{◌≡◌, ℕ, zero, suc, ◌+◌, ◌-◌, ◌≤◌, min, List, [], ◌∷◌, ◌++◌, length, get_or, take, drop, ℤ, Some, None, inl, inr, sym, ap, ◌∙◌, arith, length-drop, length-take}
+use Rattle.std.proofs.Common.{◌≡◌, ℕ, zero, suc, ◌+◌, ◌-◌, ◌<◌, ◌≤◌, min, List, [], ◌∷◌, ◌++◌, length, get_or, take, drop, ℤ, Some, None, inl, inr, sym, refl, ap, ◌∙◌, arith, length-drop, length-take}
 use Rattle.std.specs.List.{slice_get}
 use Rattle.std.proofs.Math.Seq.{drop-append-add}
 use Rattle.std.proofs.lemmas.List.{take-append-drop, take-take, drop-take, drop-drop, drop-append-le, drop_all, append-nil, append_assoc, take_at, drop_at, take_more, take_rest, get_or-drop}
 use Rattle.std.proofs.lemmas.Option.{slice_get_cases, slice_get_within, get_or_from_slice_get}
 use borrow.Rule.Slice.PartMut.{put_mid}
 use Rattle.reels.specs.Samples.{Copied, stretch}
+use Rattle.reels.proofs.Lists.{nth_take, nth_drop}
 
 pub length_stretch : (samples : List ℤ) (start n : ℕ) → n ≤ length samples - start → length (stretch samples start n) ≡ n
 length_stretch samples start n h = simp (length-take, length-drop) (omega arith)
@@ -84,3 +85,11 @@ pub read_back : (samples : List ℤ) (start : ℕ) (before after rest : List ℤ
 read_back samples start before after rest n a =
     ap (λ v. take n (v ++ rest)) a.block ∙ ap (take n) (append_assoc (stretch samples start n) (drop n before) rest)
     ∙ take_at (stretch samples start n) (drop n before ++ rest) n (length_stretch samples start n (omega (arith, a.count)))
+
+-- from the end on there is nothing to copy
+pub copied_none : (samples : List ℤ) (start : ℕ) (block : List ℤ) → length samples ≤ start → Copied samples start block block 0
+copied_none samples start block h = record { count = omega arith; block = refl }
+
+-- what a stretch has at a place
+pub nth_stretch : (samples : List ℤ) (start n i : ℕ) → i < n → slice_get (stretch samples start n) i ≡ slice_get samples (start + i)
+nth_stretch samples start n i h = nth_take n (drop start samples) i h ∙ nth_drop start samples i

@@ -1,7 +1,7 @@
 -- Lists that are made entry by entry, and what stands at a place of one.
-use Rattle.std.proofs.Common.{◌≡◌, ℕ, zero, suc, ◌+◌, ◌-◌, ◌<◌, ◌≤◌, min, List, [], ◌∷◌, ◌++◌, map, length, get_or, take, drop, set, sym, refl, ap, ◌∙◌, arith, length-append, length-take}
+use Rattle.std.proofs.Common.{◌≡◌, ℕ, zero, suc, ◌+◌, ◌-◌, ◌<◌, ◌≤◌, min, List, [], ◌∷◌, ◌++◌, map, length, get_or, take, drop, set, Some, sym, refl, ap, ◌∙◌, arith, length-append, length-take}
 use Rattle.std.specs.List.{slice_get}
-use Rattle.std.proofs.lemmas.List.{take_all, drop_more, get_or_at, set_at, append_assoc, take-take, drop-take, take-map, drop-map}
+use Rattle.std.proofs.lemmas.List.{take_all, drop_all, append-nil, drop_more, get_or_at, set_at, append_assoc, take-take, drop-take, take-map, drop-map}
 use Rattle.reels.specs.Samples.{cut}
 
 pub nth_take : {X : Type 0} (n : ℕ) (xs : List X) (i : ℕ) → i < n → slice_get (take n xs) i ≡ slice_get xs i
@@ -9,6 +9,11 @@ nth_take zero xs i h = absurd (omega arith)
 nth_take (suc n) [] i h = refl
 nth_take (suc n) (x ∷ xs) zero h = refl
 nth_take (suc n) (x ∷ xs) (suc i) h = nth_take n xs i (omega arith)
+
+pub nth_drop : {X : Type 0} (n : ℕ) (xs : List X) (i : ℕ) → slice_get (drop n xs) i ≡ slice_get xs (n + i)
+nth_drop zero xs i = let e : 0 + i ≡ i = omega arith in rw e
+nth_drop (suc n) [] i = refl
+nth_drop (suc n) (x ∷ xs) i = let e : suc n + i ≡ suc (n + i) = omega arith in rw e (nth_drop n xs i)
 
 pub nth_front : {X : Type 0} (xs ys : List X) (i : ℕ) → i < length xs → slice_get (xs ++ ys) i ≡ slice_get xs i
 nth_front [] ys i h = absurd (omega arith)
@@ -65,3 +70,16 @@ pub over_step : {X : Type 0} (done more old : List X) (i : ℕ) (x : X) → leng
 over_step done more old i x n h e =
     ap (λ v. set (done ++ v) i x) (drop_more old i x h) ∙ set_at done (get_or old i x) (drop (i + 1) old) x i n
     ∙ sym (append_assoc done (x ∷ []) (drop (i + 1) old)) ∙ ap (λ v. v ++ drop (i + 1) old) (sym e)
+
+-- the same where what is written are the first entries of a list that is known whole
+pub over_more : {X : Type 0} (new old : List X) (i : ℕ) (x : X) → i < length old → slice_get new i ≡ Some x → set (take i new ++ drop i old) i x ≡ take (i + 1) new ++ drop (i + 1) old
+over_more [] old i x h e = cc
+over_more (y ∷ new) [] i x h e = absurd (omega arith)
+over_more (y ∷ new) (z ∷ old) zero x h e = let same : x ≡ y = cc in ap (λ v. v ∷ old) same
+over_more (y ∷ new) (z ∷ old) (suc i) x h e =
+    let more : suc i + 1 ≡ suc (i + 1) = omega arith in
+    rw more (ap (λ v. y ∷ v) (over_more new old i x (omega arith) e))
+
+-- at the end nothing of the old list is left
+pub over_all : {X : Type 0} (new old : List X) (n : ℕ) → length new ≤ n → length old ≤ n → take n new ++ drop n old ≡ new
+over_all new old n a b = ap (λ v. take n new ++ v) (drop_all n old b) ∙ append-nil (take n new) ∙ take_all n new a

@@ -38,7 +38,7 @@ module _ {E A S : Type 0} {k : Meaning E A S} {a : List (Cell E S)} {p : Pool} {
     }
 
   module _ {flip : Bool} (is : flip ≡ false) where
-    cost_plain : link_cost (seen flip a left) (seen flip a right) ≡ link_cost (tree a left) (tree a right)
+    pub cost_plain : link_cost (seen flip a left) (seen flip a right) ≡ link_cost (tree a left) (tree a right)
     cost_plain = ap (λ f. link_cost (seen f a left) (seen f a right)) is
 
     pub grows_plain : (e : E) (b : List (Cell E S)) (q : Pool) (r : ℕ) → Makes k false a p (left ∷ right ∷ []) b q r (link (tree a left) e (tree a right)) (link_cost (tree a left) (tree a right))

@@ -164,7 +164,7 @@ module _ {E A S : Type 0} {k : Meaning E A S} {a : List (Cell E S)} {p : Pool} {
       to_b : Moves k a p (l.root ∷ []) b q (l.root ∷ r.before ∷ xs) (0 + n)
       to_b = moves_then k a p (l.root ∷ []) a p (l.root ∷ []) 0 (moves_none k a p (l.root ∷ [])) [] (l.root ∷ []) (λ j. omega arith) b q (r.before ∷ xs) n split.each (l.root ∷ r.before ∷ xs) (λ j. omega arith)
 
-      drop_arena : Arena k b q (l.root ∷ (r.before ∷ left))
+      pub drop_arena : Arena k b q (l.root ∷ (r.before ∷ left))
       drop_arena = (to_b h.owns.rest h.owns.arena).arena
 
       pub drop_owned : Owned k b q (l.root ∷ [])

@@ -70,7 +70,7 @@ module _ {E A S : Type 0} {k : Meaning E A S} {a : List (Cell E S)} {p : Pool} {
     abbrev xs : List ℕ
     xs = loose_roots r.loose
 
-    split_arena : Arena k b q (r.before ∷ (xs ++ (left ∷ owns.rest)))
+    pub split_arena : Arena k b q (r.before ∷ (xs ++ (left ∷ owns.rest)))
     split_arena = (split.each (left ∷ owns.rest) owns.arena).arena
 
     pub split_owned : Owned k b q (r.before ∷ [])

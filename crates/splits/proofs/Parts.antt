@@ -43,11 +43,11 @@ use Rattle.splits.proofs.BothSides.{table_on, climbs_on}
 -- ---- on trees
 
 module _ {E : Type 0} (s : Shape E) (t : Tree E) (place : ℕ) where
-  parted_beyond : span s t ≤ place → parted s t place ≡ record { before = t; rest = done }
+  pub parted_beyond : span s t ≤ place → parted s t place ≡ record { before = t; rest = done }
   unfolding parted
   parted_beyond h = test_false (ltb place (span s t)) _ _ (le-ltb place (span s t) h)
 
-  cost_beyond : span s t ≤ place → parted_cost s t place ≡ 0
+  pub cost_beyond : span s t ≤ place → parted_cost s t place ≡ 0
   unfolding parted_cost
   cost_beyond h = test_false (ltb place (span s t)) _ _ (le-ltb place (span s t) h)
 
@@ -156,7 +156,7 @@ module _ {E A S : Type 0} {k : Meaning E A S} {a : List (Cell E S)} {p : Pool} {
     good : Good k a found.cell c
     good = owns.arena.sound found.cell c at live
 
-    holding_inside : found.offset < length (k.atoms c.element)
+    pub holding_inside : found.offset < length (k.atoms c.element)
     holding_inside = subst (λ d. found.offset < length (k.atoms d.element)) cell_is w.inside
 
     abbrev d : ℕ

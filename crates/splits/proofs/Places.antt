@@ -57,7 +57,7 @@ module _ {E A S : Type 0} (k : Meaning E A S) where
     back_lawful p es l = subst (AllByRecursion (Lawful k)) (sym (same_after p es)) (after_lawful k laws es p l)
 
     -- both sides of a place have the extent of the whole
-    both_extents : (p : ℕ) (es : List E) → AllByRecursion (Lawful k) es
+    pub both_extents : (p : ℕ) (es : List E) → AllByRecursion (Lawful k) es
         → extents (shape k) (front (shape k) p es) + extents (shape k) (back (shape k) p es) ≡ extents (shape k) es
     both_extents p es l =
         let x = ap (extents (shape k)) (same_before p es) ∙ same_extent (before k p es) in

@@ -24,7 +24,7 @@ module _ {E S : Type 0} (flip : Bool) (a : List (Cell E S)) where
       let same : passed.cell ≡ c = cc in
       passed.is ∙ ap (λ d. (d.element, seen flip a (far flip d))) same
 
-  passed_one : (i : ℕ) (s t : E × Tree E) → Passed flip a i s → Passed flip a i t → s ≡ t
+  pub passed_one : (i : ℕ) (s t : E × Tree E) → Passed flip a i s → Passed flip a i t → s ≡ t
   passed_one i s t p q = passed_is i s q.cell p q.at ∙ sym q.is
 
   pub table_one : (is : List ℕ) (ss ts : List (E × Tree E)) → Table flip a is ss → Table flip a is ts → ss ≡ ts
@@ -96,7 +96,7 @@ module _ {E S : Type 0} (flip : Bool) (a b : List (Cell E S)) where
       far_same false c d same = same.right
       far_same true c d same = same.left
 
-  passed_stays : (i : ℕ) (s : E × Tree E) → Passed flip a i s → Stays a b i → Live b i → Passed flip b i s
+  pub passed_stays : (i : ℕ) (s : E × Tree E) → Passed flip a i s → Stays a b i → Live b i → Passed flip b i s
   passed_stays i s passed stays live =
       passed_alike i s passed.cell (slice_get b i) passed.at refl (subst (λ o. Alike o (slice_get b i)) passed.at (stays [])) live stays passed.is
 

@@ -39,11 +39,11 @@ module _ {E : Type 0} (s : Shape E) (e : E) (d : ℕ) where
   unfolding on_from
   on_from_none z = test_true (eqb d 0) _ _ (eq-eqb d 0 z)
 
-  on_from_some : (d ≡ 0 → ⊥) → on_from s e d ≡ s.part e d (s.extent e - d)
+  pub on_from_some : (d ≡ 0 → ⊥) → on_from s e d ≡ s.part e d (s.extent e - d)
   unfolding on_from
   on_from_some nz = test_false (eqb d 0) _ _ (ne_eqb d 0 nz)
 
-up_to_cost_none : {E : Type 0} (l : Tree E) (d : ℕ) → d ≡ 0 → up_to_cost l d ≡ 0
+pub up_to_cost_none : {E : Type 0} (l : Tree E) (d : ℕ) → d ≡ 0 → up_to_cost l d ≡ 0
 unfolding up_to_cost
 up_to_cost_none l d z = test_true (eqb d 0) _ _ (eq-eqb d 0 z)
 

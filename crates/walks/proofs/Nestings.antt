@@ -80,6 +80,9 @@ module _ {E A S : Type 0} (k : Meaning E A S) (cells : List (Cell E S)) (sound :
         begun_append (pending cells is) (from_own cells (slice_get cells i)) (pending_begun (cell_count cells n.cell.left + 1) is v n.left)
         (subst (λ o. Begun (shape k) 0 (from_own cells o)) (sym n.at) (laws.some n.cell.element (sound i n.cell n.at n.live).lawful))
 
+  pub spine_start : (table : List ℕ) (n link : ℕ) → Live cells link → length table ≡ 64 → n ≤ 64 → Nested cells (most + 1) (take n table) (cell_count cells link + 1) → SpineAt cells (take n table) link table n link
+  spine_start table n link live long fits nested = record { live = live; long = long; fits = fits; nested = nested; waits = refl }
+
 -- ---- down the left children
 
 module _ {E A S : Type 0} {k : Meaning E A S} {cells : List (Cell E S)} (sound : Sound k cells) where

@@ -1,5 +1,5 @@
 -- The walks that sum up a range, turn by turn.
-use Rattle.std.proofs.Common.{◌≡◌, ℕ, ◌+◌, ◌-◌, ◌<◌, ◌≤◌, min, List, [], ◌++◌, length, take, drop, Some, sym, ap, ◌∙◌, subst, append_assoc, append-nil, arith, length-drop, take_all}
+use Rattle.std.proofs.Common.{◌≡◌, ℕ, ◌+◌, ◌-◌, ◌<◌, ◌≤◌, min, List, [], ◌++◌, length, take, drop, Some, sym, refl, ap, ◌∙◌, subst, append_assoc, append-nil, arith, length-drop, take_all}
 use Rattle.std.proofs.lemmas.List.{drop_all}
 use Rattle.std.specs.List.{slice_get}
 use Rattle.faults.specs.Limits.{limit}
@@ -278,3 +278,7 @@ module _ {E A S : Type 0} {k : Meaning E A S} (laws : Laws k) {cells : List (Cel
         join_sum k laws D (take taken (drop skipped M) ++ take (rest - taken) R) left behind all few' left_is'
         (join_sum k laws (take taken (drop skipped M)) (take (rest - taken) R) middle right behind (few_right k D _ few') middle_is right_is asked) asked'
         ∙ ap (total k) (sym listed')
+
+module _ {E A S : Type 0} (k : Meaning E A S) (laws : Laws k) (cells : List (Cell E S)) (sound : Sound k cells) where
+  pub head_start : (link len : ℕ) (sum : S) → Live cells link → 0 < len → len ≤ span (shape k) (tree cells link) → sum ≡ k.none → HeadAt k cells link len link len sum
+  head_start link len sum live some inside sum_none = record { live = live; some = some; inside = inside; before = []; listed = refl; summed = sum_none }

@@ -25,4 +25,4 @@ loop-i-preserved g c =
 pub returns-clause-raises : goal.returns-clause-raises
 returns-clause-raises g c =
     let all = YieldsList-end (YieldsList-from_rev_slice c.args.path.now.items cc) c.loop-i.yielded _ c.loop-i.yielded_by _ _ c.in-None.is c.next.ensures.steps in
-    climbing_end c.requires.holds c.requires.tabled c.loop-i.invariant.1 all.1
+    climbing_end c.loop-i.invariant.1 all.1
