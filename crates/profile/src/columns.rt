@@ -86,9 +86,12 @@ pub fn in_columns<S: Drop, F: Fn(u32, u32) -> S>(
     ensures { IfOk result (λ v. Columns (F.post stretch) extent n v.items) }
 {
     let mut columns = Vec::new(alloc);
+    let mut from = 0;
     // Not a `map` that is collected: there it stays open that `stretch` may be called at each number below n.
     for i in 0..n {
-        columns.push(stretch(edge_of(extent, n, i), edge_of(extent, n, i + 1)))?;
+        let to = edge_of(extent, n, i + 1);
+        columns.push(stretch(from, to))?;
+        from = to;
     }
     Ok(columns)
 }
