@@ -1,7 +1,8 @@
 -- Lists that are made entry by entry, and what stands at a place of one.
 use Rattle.std.proofs.Common.{◌≡◌, ℕ, zero, suc, ◌+◌, ◌-◌, ◌<◌, ◌≤◌, min, List, [], ◌∷◌, ◌++◌, map, length, get_or, take, drop, set, Some, sym, refl, ap, ◌∙◌, arith, length-append, length-take}
 use Rattle.std.specs.List.{slice_get}
-use Rattle.std.proofs.lemmas.List.{take_all, drop_all, append-nil, drop_more, get_or_at, set_at, append_assoc, take-take, drop-take, take-map, drop-map}
+use Rattle.std.proofs.lemmas.List.{take_all, drop_all, append-nil, drop_more, take_more, get_or_at, set_at, append_assoc, take-take, drop-take, take-map, drop-map}
+use Rattle.std.proofs.lemmas.Option.{slice_get_within, get_or_from_slice_get}
 use Rattle.reels.specs.Samples.{cut}
 
 pub nth_take : {X : Type 0} (n : ℕ) (xs : List X) (i : ℕ) → i < n → slice_get (take n xs) i ≡ slice_get xs i
@@ -73,12 +74,10 @@ over_step done more old i x n h e =
 
 -- the same where what is written are the first entries of a list that is known whole
 pub over_more : {X : Type 0} (new old : List X) (i : ℕ) (x : X) → i < length old → slice_get new i ≡ Some x → set (take i new ++ drop i old) i x ≡ take (i + 1) new ++ drop (i + 1) old
-over_more [] old i x h e = cc
-over_more (y ∷ new) [] i x h e = absurd (omega arith)
-over_more (y ∷ new) (z ∷ old) zero x h e = let same : x ≡ y = cc in ap (λ v. v ∷ old) same
-over_more (y ∷ new) (z ∷ old) (suc i) x h e =
-    let more : suc i + 1 ≡ suc (i + 1) = omega arith in
-    rw more (ap (λ v. y ∷ v) (over_more new old i x (omega arith) e))
+over_more new old i x h e =
+    let w = slice_get_within new i x e in
+    let n : length (take i new) ≡ i = let l = length-take i new in omega arith in
+    over_step (take i new) (take (i + 1) new) old i x n h (take_more new i x w ∙ ap (λ v. take i new ++ v ∷ []) (get_or_from_slice_get new i x x e))
 
 -- at the end nothing of the old list is left
 pub over_all : {X : Type 0} (new old : List X) (n : ℕ) → length new ≤ n → length old ≤ n → take n new ++ drop n old ≡ new
